@@ -1,0 +1,4 @@
+pub mod Arrival
+pub mod Causes
+pub mod Done
+pub mod Kept
