@@ -3,11 +3,25 @@
 #![tactic(auto)]
 
 mod drive;
+mod failures;
+mod file;
+mod memory;
+mod memory_sink;
+mod memory_source;
 mod origin;
 mod sink;
 mod source;
+mod streams;
+#[cfg(test)]
+mod tests;
 
 pub use drive::{Drive, Part};
+pub use failures::{CallKind, DriveCall, FailAt};
+pub use file::FileDrive;
+pub use memory::{MemoryDrive, RANGES_LEN};
+pub use memory_sink::MemorySink;
+pub use memory_source::MemorySource;
 pub use origin::{Origin, Unknown};
 pub use sink::Sink;
 pub use source::Source;
+pub use streams::{ReadSource, WriteSink};

@@ -1,0 +1,32 @@
+-- What the memory forms of a drive, a source and a sink show.
+use Rattle.std.specs.Prelude.{◌≡◌, ℕ, Bool, List, [], length, slice_index}
+use Rattle.gft_drive.specs.declared.failures.DriveCall.{DriveCall}
+use Rattle.gft_drive.specs.Drive.{Image}
+
+pub record Memory : Type 0 where
+  pub label : List ℕ
+  -- what a read gives
+  pub image : Image
+  -- the calls that were kept, the oldest first
+  pub calls : List DriveCall
+  -- how often a call failed
+  pub faults : ℕ
+
+-- no bytes are written, and the other part is this many zeros
+pub record IsNew (ranges_len : ℕ) (image : Image) : Type 0 where
+  pub empty : image.bytes ≡ []
+  pub size : length image.ranges ≡ ranges_len
+  pub zeros : (x : ℕ) → slice_index image.ranges x ≡ 0
+
+pub record Given : Type 0 where
+  -- the bytes that are left
+  pub left : List ℕ
+  -- how often it was read
+  pub reads : ℕ
+  pub faults : ℕ
+
+pub record Taken : Type 0 where
+  -- the bytes that were put
+  pub written : List ℕ
+  pub is_open : Bool
+  pub faults : ℕ
