@@ -1,0 +1,6 @@
+pub mod FirstGapLemmas
+pub mod GapLemmas
+pub mod JoinLemmas
+pub mod NormalLemmas
+pub mod OffsetLemmas
+pub mod TouchLemmas
