@@ -4,3 +4,4 @@ pub mod JoinLemmas
 pub mod NormalLemmas
 pub mod OffsetLemmas
 pub mod TouchLemmas
+pub mod UnionLemmas
