@@ -1,0 +1,5 @@
+pub mod Arrivals
+pub mod Channel
+pub mod Feeding
+pub mod Header
+pub mod Spelling
