@@ -1,6 +1,7 @@
 -- What the memory forms of a drive, a source and a sink show.
 use Rattle.std.specs.Prelude.{◌≡◌, ℕ, Bool, List, [], length, slice_index}
 use Rattle.gft_drive.specs.declared.failures.DriveCall.{DriveCall}
+use Rattle.gft_drive.specs.declared.failures.FailAt.{FailAt}
 use Rattle.gft_drive.specs.Drive.{Image}
 
 pub record Memory : Type 0 where
@@ -11,6 +12,12 @@ pub record Memory : Type 0 where
   pub calls : List DriveCall
   -- how often a call failed
   pub faults : ℕ
+  -- the room of the Bytes part
+  pub capacity : ℕ
+  -- how many calls may still reach it
+  pub calls_left : ℕ
+  -- the calls that are to fail, each counted from now on
+  pub failing : List FailAt
 
 -- no bytes are written, and the other part is this many zeros
 pub record IsNew (ranges_len : ℕ) (image : Image) : Type 0 where
@@ -21,6 +28,10 @@ pub record IsNew (ranges_len : ℕ) (image : Image) : Type 0 where
 pub record Given : Type 0 where
   -- the bytes that are left
   pub left : List ℕ
+  -- the most that a read gives
+  pub most : ℕ
+  -- the numbers of the reads that fail
+  pub failing : List ℕ
   -- how often it was read
   pub reads : ℕ
   pub faults : ℕ
@@ -28,5 +39,10 @@ pub record Given : Type 0 where
 pub record Taken : Type 0 where
   -- the bytes that were put
   pub written : List ℕ
+  -- the most bytes that it takes
+  pub room : ℕ
+  -- the numbers of the puts that fail
+  pub failing : List ℕ
+  -- no put has failed
   pub is_open : Bool
   pub faults : ℕ

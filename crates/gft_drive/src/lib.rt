@@ -1,5 +1,6 @@
 //! The outside: where bytes come from, where they go, and the drive that keeps a file. Each trait
-//! counts its faults, and tells its bytes or doesn't. The memory forms tell theirs.
+//! counts its faults, and tells its bytes or doesn't: the memory forms tell theirs, the drive over a
+//! file tells none.
 #![tactic(auto)]
 
 mod drive;

@@ -33,7 +33,7 @@ impl Model for MemoryDrive {
 
     ghost Value = { Memory };
 
-    ghost view = { λ d. record { label = d.label.items; image = record { bytes = d.bytes.items; ranges = d.ranges.items }; calls = d.calls.items; faults = d.faults } };
+    ghost view = { λ d. record { label = d.label.items; image = record { bytes = d.bytes.items; ranges = d.ranges.items }; calls = d.calls.items; faults = d.faults; capacity = d.capacity; calls_left = d.calls_left; failing = d.failing.items } };
 }
 
 // A write doesn't fit.
@@ -55,6 +55,9 @@ impl MemoryDrive {
         ensures image { IfOk result (λ drive. IsNew RANGES_LEN drive.image) }
         ensures calls { IfOk result (λ drive. drive.calls ≡ []) }
         ensures faults { IfOk result (λ drive. drive.faults ≡ 0) }
+        ensures capacity { IfOk result (λ drive. drive.capacity ≡ capacity) }
+        ensures calls_left { IfOk result (λ drive. drive.calls_left ≡ calls) }
+        ensures failing { IfOk result (λ drive. drive.failing ≡ failing.now) }
     {
         Ok(MemoryDrive {
             label: Vec::from_slice(alloc, label)?,
@@ -100,6 +103,7 @@ impl MemoryDrive {
     fn begin(&mut self, kind: CallKind, part: Part, at: u64, len: u64) -> Result<(), Failed>
         ensures label { self.new.label ≡ self.old.label }
         ensures image { self.new.image ≡ self.old.image }
+        ensures left { OnOk result (self.old.calls_left ≡ self.new.calls_left + 1) }
         ensures kept { OnOk result (length self.old.calls < KEPT_CALLS
             → self.new.calls ≡ self.old.calls ++ record { call = kind; part = part; at = at; len = len } ∷ []) }
         ensures unkept { KEPT_CALLS ≤ length self.old.calls → self.new.calls ≡ self.old.calls }

@@ -1,5 +1,4 @@
 ghost use Rattle.std.specs.Prelude.{◌≡◌, ◌+◌, ◌-◌, ◌^◌, ◌<◌, min};
-ghost use Rattle.gft_drive.specs.Memory.{Given};
 
 use crate::source::Source;
 use gft_base::{Failed, Faults};
@@ -22,7 +21,7 @@ impl Model for MemorySource {
 
     ghost Value = { Given };
 
-    ghost view = { λ s. record { left = drop s.at s.bytes.items; reads = s.reads; faults = s.faults } };
+    ghost view = { λ s. record { left = drop s.at s.bytes.items; most = s.most; failing = s.failing.items; reads = s.reads; faults = s.faults } };
 
     ghost invariant = { λ s. (s.at ≤ length s.bytes.items) × (0 < s.most) };
 }
@@ -31,7 +30,7 @@ impl MemorySource {
     /// A source of these bytes. The reads whose number, counted from 1, is in `failing` fail.
     pub fn new(bytes: Vec<u8>, most: usize, failing: Vec<u32>) -> Self
         requires { 0 < most }
-        ensures { result ≡ record { left = bytes.items; reads = 0; faults = 0 } }
+        ensures { result ≡ record { left = bytes.items; most = most; failing = failing.items; reads = 0; faults = 0 } }
     {
         MemorySource {
             bytes,

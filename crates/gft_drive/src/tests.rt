@@ -10,7 +10,6 @@ use crate::streams::{ReadSource, WriteSink};
 use std::alloc::Global;
 use std::fs::File;
 use std::io::{ErrorKind, Read};
-use std::rt::Files;
 use std::test::Fail;
 use std::{fs, io, thread};
 
