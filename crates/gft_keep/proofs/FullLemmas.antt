@@ -18,4 +18,4 @@ covered_not_full set block normal covered full =
 pub is_full : (set : List Range) (block : Range) → IsNormal set → block.start < block.end → length set ≡ MOST_RANGES → ((union : List Range) → IsUnion set block union → length union ≡ length set + 1) → IsFull set block
 is_full set block normal full at_limit apart =
     let union = union_of set block normal full in
-    record { at_limit = at_limit; union = union.0; is_union = union.1; one_more = apart union.0 union.1 ∙ ap (λ n. n + 1) at_limit }
+    record { normal = normal; at_limit = at_limit; union = union.0; is_union = union.1; one_more = apart union.0 union.1 ∙ ap (λ n. n + 1) at_limit }

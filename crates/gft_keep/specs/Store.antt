@@ -2,6 +2,7 @@
 use Rattle.std.specs.Prelude.{◌≡◌, ℕ, ◌+◌, ◌-◌, ◌<◌, List, [], ◌∷◌, length, take, slice_index}
 use Rattle.gft_range.specs.declared.range.Range.{Range}
 use Rattle.gft_range.specs.Range.{HasOffset}
+use Rattle.gft_range.specs.Normal.{IsNormal}
 use Rattle.gft_range.specs.Set.{IsUnion, IsMissing}
 use Rattle.gft_keep.specs.declared.keep.TheConstants.{MOST_RANGES}
 
@@ -27,6 +28,7 @@ IsNewCount set block n = (missing : List Range) → IsMissing set block missing 
 
 -- as many ranges are kept as may be, and with the block there is one more
 pub record IsFull (set : List Range) (block : Range) : Type 0 where
+  pub normal : IsNormal set
   pub at_limit : length set ≡ MOST_RANGES
   pub union : List Range
   pub is_union : IsUnion set block union

@@ -1,0 +1,205 @@
+-- What an intake that ended says of its stream.
+use Rattle.std.proofs.Common.{◌≡◌, ◌≢◌, ℕ, ◌+◌, ◌<◌, ◌≤◌, ◌⊎◌, ◌↔◌, Bool, true, false, cond, List, [], ◌∷◌, ◌++◌, length, take, drop, Option, Some, None, IsSome, append_assoc, append-nil, refl, sym, ap, ◌∙◌, subst, arith, inl, inr, Bor}
+use Rattle.std.specs.Prelude.{slice_index, is_some, IfNone, IfSome}
+use Rattle.std.specs.Bool.{then_some}
+use Rattle.std.specs.Io.KnownBytes.{Consumes, IsAtEnd}
+use Rattle.std.proofs.lemmas.List.{take_all, get_or-take, take-append-drop}
+use Rattle.gft_base.specs.Causes.{Rose}
+use Rattle.gft_base.specs.Arrival.{Arrival, Eof, Eod, Bad, Arrives, totals, eods}
+use Rattle.gft_base.specs.Kept.{kept_byte, HasKept}
+use Rattle.gft_base.specs.Done.{IsDone, first_of}
+use Rattle.gft_range.specs.declared.range.Range.{Range}
+use Rattle.gft_range.specs.Range.{InRange, HasOffset}
+use Rattle.gft_range.specs.Set.{KeptRanges}
+use Rattle.gft_range.specs.FirstGap.{IsFirstGap, HasNoGap}
+use Rattle.gft_drive.specs.Drive.{DriveState, Reads}
+use Rattle.gft_drive.specs.declared.drive.Part.TheVariants.{Bytes}
+use Rattle.gft_drive.specs.Write.{Same, CutTo}
+use Rattle.gft_drive.proofs.Steps.{Reads-then}
+use Rattle.gft_keep.specs.Store.{IsFull, Finishes, block_of}
+use Rattle.gft_eblock.specs.declared.bad_block.BadBlock.{BadBlock}
+use Rattle.gft_eblock.specs.declared.event.Step.{Step}
+use Rattle.gft_eblock.specs.declared.event.Event.TheVariants as event
+use Rattle.gft_eblock.specs.Arrivals.{arrivals, blocks_from, data_at, IsUnfinished}
+use Rattle.gft_eblock.specs.Channel.{Reader, to_come, wanted, refusal_of}
+use Rattle.gft_eblock.specs.Channel as channel
+use Rattle.gft_eblock.specs.Feeding.{Advances, Fails, event_arrivals}
+use Rattle.gft_eblock.proofs.ToComeLemmas.{to_come-done, to_come-nothing}
+use Rattle.gridftpd.specs.declared.intake.Intake.{Intake}
+use Rattle.gridftpd.specs.Cause.{told_by, IsLost, HasHole, IsFirstMissing, HasOtherTotal, NeedsMoreRanges, EndsBad}
+use Rattle.gridftpd.specs.Drain.{IsStored}
+use Rattle.gridftpd.specs.Follows.{Follows, HasKeptIn}
+
+-- ---- the bytes that were taken
+
+pub is_false : (b : Bool) → (b ≡ true → ⊥) → b ≡ false
+is_false true no_more = absurd (no_more refl)
+is_false false no_more = refl
+
+pub Consumes-none : (left : Option (List ℕ)) → Consumes left left []
+Consumes-none None = tt
+Consumes-none (Some xs) = refl
+
+pub Consumes-append : (a b c : Option (List ℕ)) (s t : List ℕ) → Consumes a b s → Consumes b c t → Consumes a c (s ++ t)
+Consumes-append None b c s t first next = tt
+Consumes-append (Some xs) None c s t first next = absurd first
+Consumes-append (Some xs) (Some ys) None s t first next = absurd next
+Consumes-append (Some xs) (Some ys) (Some zs) s t first next = first ∙ ap (λ rest. s ++ rest) next ∙ sym (append_assoc s t zs)
+
+pub is_none : {A : Type 0} (o : Option A) → is_some o ≡ false → o ≡ None
+is_none None not = refl
+is_none (Some x) not = absurd (cc)
+
+pub total_is : (announced : Bool) → cond {A = Option ℕ} announced (Some 1) None ≡ then_some announced 1
+total_is true = refl
+total_is false = refl
+
+empty_list : (xs : List ℕ) → length xs ≡ 0 → xs ≡ []
+empty_list [] none = refl
+empty_list (x ∷ xs) none = absurd (omega arith)
+
+-- nothing more was taken
+pub Consumes-nothing : (a b c : Option (List ℕ)) (s t : List ℕ) → t ≡ [] → Consumes a b s → Consumes b c t → Consumes a c s
+Consumes-nothing a b c s t none first next = subst (Consumes a c) (ap (λ rest. s ++ rest) none ∙ append-nil s) (Consumes-append a b c s t first next)
+
+no_arrivals : arrivals 0 [] ≡ []
+unfolding arrivals blocks_from
+no_arrivals = refl
+
+module _ {D : Type 0} (state : D → DriveState) (start : DriveState) (stream : List ℕ) (intake : Intake D) where
+  told_so_far : (follows : Follows state start 0 stream intake) → 0 < wanted intake.channel → arrivals 0 stream ≡ follows.told
+  told_so_far follows awaits = ap (arrivals 0) (sym (append-nil stream)) ∙ follows.carried [] ∙ ap (λ rest. follows.told ++ rest) (to_come-nothing intake.channel awaits) ∙ append-nil follows.told
+
+  told_all : (follows : Follows state start 1 stream intake) → channel.IsDone intake.channel → arrivals 0 stream ≡ follows.told
+  told_all follows done = ap (arrivals 0) (sym (append-nil stream)) ∙ follows.carried [] ∙ ap (λ rest. follows.told ++ rest) (to_come-done intake.channel done []) ∙ append-nil follows.told
+
+  -- the input ended before the EOD
+  pub lost_from : (left : Option (List ℕ)) (taken : ℕ) → Follows state start 0 stream intake → 0 < wanted intake.channel → IsAtEnd left → taken ≡ intake.channel.taken → 0 < taken → IsLost stream left taken
+  lost_from left taken follows awaits ended is some = record {
+    some = some;
+    taken_is = sym follows.taken ∙ sym is;
+    unfinished = rw (told_so_far follows awaits) (follows.unfinished refl);
+    at_end = ended;
+  }
+
+  pub empty_hole : (left : Option (List ℕ)) → Follows state start 0 stream intake → IsAtEnd left → intake.channel.taken ≡ 0 → HasHole stream left None 0 None
+  empty_hole left follows ended none =
+      let empty = empty_list stream (sym follows.taken ∙ none) in
+      let nothing : arrivals 0 stream ≡ [] = ap (arrivals 0) empty ∙ no_arrivals in
+      record {
+        ended = inl (empty, ended);
+        announced = rw nothing refl;
+        counted = rw nothing refl;
+        first_missing = rw nothing (λ x y lt none. absurd none);
+        why = inl refl;
+      }
+
+  -- the EOD came
+  missing_from : (list : List Arrival) (missing : Option Range) → ((x : ℕ) → HasOffset intake.keep.set.ranges x ↔ Arrives list x) → IfSome missing (IsFirstGap intake.keep.set.ranges) → IfNone missing (HasNoGap intake.keep.set.ranges) → IsFirstMissing list missing
+  missing_from list None offsets some none = λ x y lt came. (offsets x).0 (none x y lt ((offsets y).1 came))
+  missing_from list (Some gap) offsets some none = (some.non_empty, λ x lt. (offsets x).0 (some.below x lt), λ x inside came. some.inside x inside ((offsets x).1 came), (offsets gap.end).0 some.behind)
+
+  pub hole_from : (left : Option (List ℕ)) (missing : Option Range) → Follows state start 1 stream intake → channel.IsDone intake.channel
+      → IfSome missing (IsFirstGap intake.keep.set.ranges) → IfNone missing (HasNoGap intake.keep.set.ranges) → (intake.announced ≡ false) ⊎ IsSome missing
+      → HasHole stream left (cond intake.announced (Some 1) None) 1 missing
+  hole_from left missing follows done some none why =
+      let told = told_all follows done in
+      record {
+        ended = inr (ap eods told ∙ follows.eods);
+        announced = first_announced intake.announced ∙ ap first_of (sym follows.announced) ∙ ap (λ list. first_of (totals list)) (sym told);
+        counted = sym follows.eods ∙ ap eods (sym told);
+        first_missing = rw told (missing_from follows.told missing follows.offsets some none);
+        why = elim why [ inl untold ↦ inl (ap (λ (b : Bool). cond b (Some 1) None) untold) | inr there ↦ inr there ];
+      }
+    where
+      first_announced : (told : Bool) → cond told (Some 1) None ≡ first_of (cond told (1 ∷ []) [])
+      first_announced true = refl
+      first_announced false = refl
+
+  pub done_from : (end : ℕ) → Follows state start 1 stream intake → channel.IsDone intake.channel → intake.announced ≡ true → ((x : ℕ) → HasOffset intake.keep.set.ranges x ↔ (x < end)) → IsDone (told_by stream) end
+  done_from end follows done announced below =
+      let one : totals follows.told ≡ 1 ∷ [] = rw announced at follows.announced in
+      rw (told_all follows done) (record {
+        total = 1;
+        announced = ap first_of one;
+        in_bounds = (omega arith, omega arith);
+        no_other = rw one (refl, tt);
+        met = follows.eods;
+        whole = λ x. (λ came. (below x).0 ((follows.offsets x).1 came), λ lt. (follows.offsets x).0 ((below x).1 lt));
+      })
+
+  pub stored_from : (end : ℕ) (new : DriveState) → Follows state start 1 stream intake → channel.IsDone intake.channel → intake.announced ≡ true → ((x : ℕ) → HasOffset intake.keep.set.ranges x ↔ (x < end))
+      → Reads Bytes (Finishes end) (state intake.keep.drive) new → IsStored stream start new
+  stored_from end new follows done announced below finished =
+      let told = told_all follows done in (
+        end,
+        done_from end follows done announced below,
+        Reads-then Bytes (HasKeptIn follows.told intake.keep.set.ranges) (Finishes end) (λ before after. HasKept (told_by stream) end after) start (state intake.keep.drive) new follows.kept finished
+            (λ xs ys zs kept finishes. record {
+              size = finishes.size;
+              bytes = λ x lt. ap (λ list. kept_byte list x) told ∙ kept x ((below x).1 lt) ∙ ap (λ v. Some v) (sym (ap (λ file. slice_index file x) finishes.left ∙ get_or-take end ys x 0 lt));
+            }),
+      )
+
+  -- ---- one piece more
+
+  pub bad_from : (piece : List ℕ) (bad : BadBlock) (after : Reader) → Follows state start 0 stream intake → Fails intake.channel piece bad after → EndsBad (told_by (stream ++ piece)) (Bad (refusal_of bad) ∷ [])
+  bad_from piece bad after follows fails =
+      let n = fails.used in
+      let comes : to_come intake.channel piece ≡ Bad (refusal_of bad) ∷ [] = rw (take-append-drop n piece) at (fails.comes (drop n piece)) in
+      record { earlier = follows.told; split = follows.carried piece ∙ ap (λ rest. follows.told ++ rest) comes }
+
+  came_of : (piece : List ℕ) (step : Step) (after : Reader) → Advances intake.channel piece step after → step.used ≡ length piece → to_come intake.channel piece ≡ event_arrivals step.event ++ to_come after []
+  came_of piece step after advances all =
+      let whole : take step.used piece ++ [] ≡ piece = append-nil (take step.used piece) ∙ take_all step.used piece (omega arith) in
+      rw whole at (advances.carried [])
+
+  pub total_from : (piece : List ℕ) (step : Step) (after : Reader) (total : ℕ) → Follows state start 0 stream intake → Advances intake.channel piece step after → step.used ≡ length piece
+      → step.event ≡ Some (event.Eof total) → (total ≢ 1) ⊎ (intake.announced ≡ true) → HasOtherTotal (told_by (stream ++ piece)) total
+  total_from piece step after total follows advances all is other =
+      let came : to_come intake.channel piece ≡ Eof total ∷ to_come after [] = rw is at (came_of piece step after advances all) in
+      record {
+        earlier = follows.told;
+        later = to_come after [];
+        split = follows.carried piece ∙ ap (λ rest. follows.told ++ rest) came;
+        other = elim other [ inl apart ↦ inl apart | inr announced ↦ inr (λ none. let one : totals follows.told ≡ 1 ∷ [] = rw announced at follows.announced in cc) ];
+      }
+
+  pub ranges_from : (piece : List ℕ) (step : Step) (after : Reader) (offset : ℕ) (bytes : Bor (List ℕ)) → Follows state start 0 stream intake → Advances intake.channel piece step after → step.used ≡ length piece
+      → step.event ≡ Some (event.Piece offset bytes) → IsFull intake.keep.set.ranges (block_of offset bytes.now) → NeedsMoreRanges (told_by (stream ++ piece))
+  ranges_from piece step after offset bytes follows advances all is full =
+      let came : to_come intake.channel piece ≡ data_at offset bytes.now ++ to_come after [] = rw is at (came_of piece step after advances all) in
+      record {
+        earlier = follows.told;
+        offset = offset;
+        bytes = bytes.now;
+        later = to_come after [];
+        split = follows.carried piece ∙ ap (λ rest. follows.told ++ rest) came;
+        ranges = intake.keep.set.ranges;
+        offsets = follows.offsets;
+        full = full;
+      }
+
+-- a set without a gap has the offsets below its end
+pub below_end : (set one two : KeptRanges) (end : ℕ) (missing : Option Range) → one ≡ set → two ≡ set → missing ≡ None → IfNone missing (HasNoGap one.ranges) → (HasNoGap two.ranges → (x : ℕ) → HasOffset two.ranges x ↔ (x < end)) → (x : ℕ) → HasOffset set.ranges x ↔ (x < end)
+below_end set one two end missing first second none no_gap whole =
+    let nothing : HasNoGap one.ranges = subst (λ (o : Option Range). IfNone o (HasNoGap one.ranges)) none no_gap in
+    let moved : HasNoGap two.ranges = subst (λ (kept : KeptRanges). HasNoGap kept.ranges) (first ∙ sym second) nothing in
+    subst (λ (kept : KeptRanges). (x : ℕ) → HasOffset kept.ranges x ↔ (x < end)) second (whole moved)
+
+-- what was stored since the drive was attached and emptied was stored since before
+pub stored_since : (stream : List ℕ) (first attached emptied last : DriveState) → Reads Bytes Same first attached → Reads Bytes (CutTo 0) attached emptied → IsStored stream emptied last → IsStored stream first last
+stored_since stream first attached emptied last synced cut stored = (
+  stored.0,
+  stored.1,
+  Reads-then Bytes Same (λ before after. HasKept (told_by stream) stored.0 after) (λ before after. HasKept (told_by stream) stored.0 after) first attached last synced
+      (Reads-then Bytes (CutTo 0) (λ before after. HasKept (told_by stream) stored.0 after) (λ before after. HasKept (told_by stream) stored.0 after) attached emptied last cut stored.2 (λ xs ys zs one has. has))
+      (λ xs ys zs one has. has),
+)
+
+-- a count that rose later rose since before
+pub rose_since : (first attached emptied begun last back : DriveState) → first.faults ≤ attached.faults → attached.faults ≤ emptied.faults → begun ≡ emptied → Rose begun.faults last.faults → last ≡ back → Rose first.faults back.faults
+rose_since first attached emptied begun last back one two same rose given =
+    let here : begun.faults ≡ emptied.faults = ap (λ (s : DriveState). s.faults) same in
+    let there : last.faults ≡ back.faults = ap (λ (s : DriveState). s.faults) given in
+    omega arith

@@ -1,0 +1,139 @@
+-- How an intake goes on along its stream.
+use Rattle.std.proofs.Common.{◌≡◌, ◌≢◌, ℕ, ◌+◌, ◌-◌, ◌<◌, ◌≤◌, ◌⊎◌, ◌↔◌, Bool, true, false, cond, List, [], ◌∷◌, ◌++◌, length, length-append, take, drop, Option, Some, None, append_assoc, append-nil, refl, sym, ap, ◌∙◌, subst, arith, inl, inr, Bor}
+use Rattle.std.specs.Prelude.{slice_index}
+use Rattle.std.proofs.lemmas.List.{take_all, length-take-le, take-append-le}
+use Rattle.std.proofs.Math.Seq.{take-append-add}
+use Rattle.std.proofs.lemmas.Bool.{cases_lt}
+use Rattle.gft_base.specs.Arrival.{Arrival, Eof, Eod, Arrives, totals, eods}
+use Rattle.gft_base.specs.Kept.{kept_byte}
+use Rattle.gft_range.specs.declared.range.Range.{Range}
+use Rattle.gft_range.specs.Range.{InRange, HasOffset}
+use Rattle.gft_range.specs.Set.{IsUnion}
+use Rattle.gft_range.proofs.OffsetLemmas.{HasOffset-or}
+use Rattle.gft_drive.specs.Drive.{DriveState, Goes, Reads}
+use Rattle.gft_drive.specs.declared.drive.Part.TheVariants.{Bytes}
+use Rattle.gft_drive.proofs.Steps.{Goes-refl, Goes-then, Reads-same, Reads-then, Reads-weaker}
+use Rattle.gft_keep.specs.Holds.{Holds}
+use Rattle.gft_keep.specs.Store.{Stores, block_of}
+use Rattle.gft_eblock.specs.declared.event.Step.{Step}
+use Rattle.gft_eblock.specs.declared.event.Event.TheVariants as event
+use Rattle.gft_eblock.specs.Arrivals.{arrivals, data_at, IsUnfinished}
+use Rattle.gft_eblock.specs.Channel.{Reader, to_come, wanted}
+use Rattle.gft_eblock.specs.Feeding.{Advances, event_arrivals}
+use Rattle.gft_eblock.proofs.EndingLemmas.{IsUnfinished-append, IsUnfinished-data_at}
+use Rattle.gft_eblock.proofs.ToComeLemmas.{to_come-early}
+use Rattle.gridftpd.specs.declared.intake.Intake.{Intake}
+use Rattle.gridftpd.specs.Follows.{Follows, HasKeptIn}
+use Rattle.gridftpd.proofs.ArrivalLemmas.{Arrives-append, totals-append, eods-append, Arrives-data_at, totals-data_at, eods-data_at, kept_byte-first, kept_byte-later, kept_byte-data_at}
+
+-- no more than was wanted has no EOD or bad header before its last byte
+pub in_time_more : {D : Type 0} (state : D → DriveState) (start : DriveState) (stream piece : List ℕ) (intake : Intake D) → Follows state start 0 stream intake → length piece ≤ wanted intake.channel
+    → (n : ℕ) → n < length (stream ++ piece) → IsUnfinished (arrivals 0 (take n (stream ++ piece)))
+in_time_more state start stream piece intake follows fits n lt =
+    elim (cases_lt n (length stream)) [
+      | inl before ↦ rw (take-append-le n stream piece (omega arith)) (follows.in_time n before)
+      | inr behind ↦
+          let k = n - length stream in
+          let all = length-append stream piece in
+          let cut : take n (stream ++ piece) ≡ stream ++ take k piece = subst (λ (m : ℕ). take m (stream ++ piece) ≡ stream ++ take k piece) (omega arith) (take-append-add stream piece k) in
+          let short : length (take k piece) ≡ k = length-take-le k piece (omega arith) in
+          rw (cut, follows.carried (take k piece)) (IsUnfinished-append follows.told _ (follows.unfinished refl) (to_come-early intake.channel (take k piece) (omega arith)))
+    ]
+
+-- what an event does to the data: kept bytes stay, and at each other offset that it brings stands its byte
+record Books (set : List Range) (brought : List Arrival) (before after : List ℕ) : Type 0 where
+  pub stays : (x : ℕ) → HasOffset set x → slice_index after x ≡ slice_index before x
+  pub fresh : (x : ℕ) → ¬ HasOffset set x → Arrives brought x → kept_byte brought x ≡ Some (slice_index after x)
+
+module _ {D : Type 0} (state : D → DriveState) (start : DriveState) (stream piece : List ℕ) (old new : Intake D) (step : Step) (follows : Follows state start 0 stream old) (advances : Advances old.channel piece step new.channel) (all : step.used ≡ length piece) (fits : length piece ≤ wanted old.channel) where
+  kept_more : ((x : ℕ) → HasOffset new.keep.set.ranges x ↔ (HasOffset old.keep.set.ranges x ⊎ Arrives (event_arrivals step.event) x)) → Reads Bytes (Books old.keep.set.ranges (event_arrivals step.event)) (state old.keep.drive) (state new.keep.drive)
+      → Reads Bytes (HasKeptIn (follows.told ++ event_arrivals step.event) new.keep.set.ranges) start (state new.keep.drive)
+  kept_more sets books =
+      let brought = event_arrivals step.event in
+      Reads-then Bytes (HasKeptIn follows.told old.keep.set.ranges) (Books old.keep.set.ranges brought) (HasKeptIn (follows.told ++ brought) new.keep.set.ranges) start (state old.keep.drive) (state new.keep.drive) follows.kept books
+      (λ xs ys zs kept booked x had. elim (HasOffset-or old.keep.set.ranges x) [
+        | inl before ↦ kept_byte-first follows.told brought x ((follows.offsets x).0 before) ∙ kept x before ∙ ap (λ v. Some v) (sym (booked.stays x before))
+        | inr out ↦ elim ((sets x).0 had) [
+          | inl before ↦ absurd (out before)
+          | inr came ↦ kept_byte-later follows.told brought x (λ arrived. out ((follows.offsets x).1 arrived)) ∙ booked.fresh x out came
+        ]
+      ])
+
+  follows_more : (n : ℕ) → ((x : ℕ) → HasOffset new.keep.set.ranges x ↔ (HasOffset old.keep.set.ranges x ⊎ Arrives (event_arrivals step.event) x))
+      → Reads Bytes (Books old.keep.set.ranges (event_arrivals step.event)) (state old.keep.drive) (state new.keep.drive)
+      → Holds new.keep.set.ranges (state new.keep.drive) → Goes (state old.keep.drive) (state new.keep.drive) → new.keep.broken ≡ false
+      → cond old.announced (1 ∷ []) [] ++ totals (event_arrivals step.event) ≡ cond new.announced (1 ∷ []) []
+      → eods (event_arrivals step.event) ≡ n → (n ≡ 0 → IsUnfinished (event_arrivals step.event)) → Follows state start n (stream ++ piece) new
+  follows_more n sets books holds goes whole announced ended unfinished =
+      let brought = event_arrivals step.event in
+      let all_of_it : take step.used piece ≡ piece = take_all step.used piece (omega arith) in
+      record {
+        told = follows.told ++ brought;
+        carried = λ later. rw (append_assoc stream piece later, append_assoc follows.told brought (to_come new.channel later))
+            (follows.carried (piece ++ later) ∙ ap (λ rest. follows.told ++ rest) (rw all_of_it at (advances.carried later)));
+        offsets = λ x.
+            let split = Arrives-append follows.told brought x in (
+              λ h. elim ((sets x).0 h) [ inl had ↦ split.1 (inl ((follows.offsets x).0 had)) | inr came ↦ split.1 (inr came) ],
+              λ h. elim (split.0 h) [ inl had ↦ (sets x).1 (inl ((follows.offsets x).1 had)) | inr came ↦ (sets x).1 (inr came) ],
+            );
+        kept = kept_more sets books;
+        holds = holds;
+        goes = Goes-then start (state old.keep.drive) (state new.keep.drive) follows.goes goes;
+        whole = whole;
+        announced = totals-append follows.told brought ∙ ap (λ ts. ts ++ totals brought) follows.announced ∙ announced;
+        eods = eods-append follows.told brought ∙ omega (arith, follows.eods, ended);
+        taken = omega (arith, advances.taken, follows.taken, length-append stream piece);
+        unfinished = λ none. IsUnfinished-append follows.told brought (follows.unfinished refl) (unfinished none);
+        in_time = in_time_more state start stream piece old follows fits;
+      }
+
+  -- a piece of data was stored
+  pub follows_piece : (offset : ℕ) (bytes : Bor (List ℕ)) → step.event ≡ Some (event.Piece offset bytes)
+      → Reads Bytes (Stores old.keep.set.ranges (block_of offset bytes.now) bytes.now) (state old.keep.drive) (state new.keep.drive) → IsUnion old.keep.set.ranges (block_of offset bytes.now) new.keep.set.ranges
+      → Holds new.keep.set.ranges (state new.keep.drive) → Goes (state old.keep.drive) (state new.keep.drive) → new.keep.broken ≡ false → new.announced ≡ old.announced → Follows state start 0 (stream ++ piece) new
+  follows_piece offset bytes is stored union holds goes whole announced =
+      follows_more 0
+      (rw is (λ x.
+      let inside = Arrives-data_at offset bytes.now x in
+      let joined = union.offsets x in (
+        λ h. elim (joined.0 h) [ inl had ↦ inl had | inr came ↦ inr (inside.1 came) ],
+        λ h. elim h [ inl had ↦ joined.1 (inl had) | inr came ↦ joined.1 (inr (inside.0 came)) ],
+      )))
+      (rw is (Reads-weaker Bytes (Stores old.keep.set.ranges (block_of offset bytes.now) bytes.now) (Books old.keep.set.ranges (data_at offset bytes.now)) (state old.keep.drive) (state new.keep.drive)
+      (λ xs ys stores. record {
+        stays = stores.kept;
+        fresh = λ x out came.
+            let place = (Arrives-data_at offset bytes.now x).0 came in
+            let k = x - offset in
+            let back : offset + k ≡ x = omega arith in
+            let lt : k < length bytes.now = omega arith in
+            let read = stores.added k lt (λ had. out (subst (λ y. HasOffset old.keep.set.ranges y) back had)) in
+            kept_byte-data_at offset bytes.now x k (sym back) lt ∙ ap (λ v. Some v) (sym read ∙ ap (λ y. slice_index ys y) back);
+      })
+      stored))
+      holds goes whole
+      (rw (is, announced) (ap (λ ts. cond old.announced (1 ∷ []) [] ++ ts) (totals-data_at offset bytes.now) ∙ append-nil (cond old.announced (1 ∷ []) [])))
+      (rw is (eods-data_at offset bytes.now))
+      (λ none. rw is (IsUnfinished-data_at offset bytes.now))
+
+  -- nothing was stored
+  nothing_booked : (brought : List Arrival) → new.keep ≡ old.keep → ((x : ℕ) → ¬ Arrives brought x) → (x : ℕ) → HasOffset new.keep.set.ranges x ↔ (HasOffset old.keep.set.ranges x ⊎ Arrives brought x)
+  nothing_booked brought same none x = rw same (λ h. inl h, λ h. elim h [ inl had ↦ had | inr came ↦ absurd (none x came) ])
+
+  books_nothing : (brought : List Arrival) → new.keep ≡ old.keep → ((x : ℕ) → ¬ Arrives brought x) → Reads Bytes (Books old.keep.set.ranges brought) (state old.keep.drive) (state new.keep.drive)
+  books_nothing brought same none = rw same (Reads-same Bytes (Books old.keep.set.ranges brought) (state old.keep.drive) (λ xs. record { stays = λ x had. refl; fresh = λ x out came. absurd (none x came) }))
+
+  pub follows_none : step.event ≡ None → new.keep ≡ old.keep → new.announced ≡ old.announced → Follows state start 0 (stream ++ piece) new
+  follows_none is same announced =
+      follows_more 0 (rw is (nothing_booked [] same (λ x none. none))) (rw is (books_nothing [] same (λ x none. none)))
+      (rw same follows.holds) (rw same (Goes-refl (state old.keep.drive))) (rw same follows.whole) (rw (is, announced) (append-nil _)) (rw is refl) (λ none. rw is tt)
+
+  pub follows_eof : step.event ≡ Some (event.Eof 1) → new.keep ≡ old.keep → old.announced ≡ false → new.announced ≡ true → Follows state start 0 (stream ++ piece) new
+  follows_eof is same before after =
+      follows_more 0 (rw is (nothing_booked (Eof 1 ∷ []) same (λ x none. none))) (rw is (books_nothing (Eof 1 ∷ []) same (λ x none. none)))
+      (rw same follows.holds) (rw same (Goes-refl (state old.keep.drive))) (rw same follows.whole) (rw (is, before, after) refl) (rw is refl) (λ none. rw is tt)
+
+  pub follows_eod : step.event ≡ Some event.Eod → new.keep ≡ old.keep → new.announced ≡ old.announced → Follows state start 1 (stream ++ piece) new
+  follows_eod is same announced =
+      follows_more 1 (rw is (nothing_booked (Eod ∷ []) same (λ x none. none))) (rw is (books_nothing (Eod ∷ []) same (λ x none. none)))
+      (rw same follows.holds) (rw same (Goes-refl (state old.keep.drive))) (rw same follows.whole) (rw (is, announced) (append-nil _)) (rw is refl) (λ none. absurd (omega arith))

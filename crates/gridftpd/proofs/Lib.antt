@@ -1,0 +1,5 @@
+pub mod ArrivalLemmas
+pub mod EndLemmas
+pub mod FollowLemmas
+pub mod OriginLemmas
+pub mod StatusLemmas

@@ -1,0 +1,11 @@
+use Rattle.std.proofs.Common.{◌≡◌, Some, List, ℕ, refl, sym, ap, ◌∙◌, subst}
+use Rattle.gridftpd.proofs.OriginLemmas.{stored_is_source}
+use Rattle.gridftpd.proofs.StatusLemmas.{complete_of}
+use Rattle.gridftpd.proofs.draining.drain.Goals as goal
+
+pub returns-clause-equal : goal.returns-clause-equal
+returns-clause-equal g c source bytes named left honest zero =
+    let state = g.D.Drive.state in
+    let stored = c.store_input-outcome.ensures.caused in
+    let complete = complete_of c.store_input-outcome.result.0 c.tell.result _ _ _ _ c.tell.ensures (sym c.number-2.ensures ∙ zero) in
+    stored_is_source source bytes stored.0 (g.I.Source.left c.args.input.now) (g.I.Source.left c.store_input-outcome.new.input) (state c.args.drive) (state c.store_input-outcome.result.1) left honest stored.1 (stored.3 complete)

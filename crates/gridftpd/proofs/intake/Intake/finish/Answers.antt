@@ -1,0 +1,34 @@
+use Rattle.std.proofs.Common.{◌≡◌, ℕ, ◌<◌, ◌↔◌, ◌⊎◌, List, Option, Some, None, IsSome, Bool, true, false, cond, sym, refl, subst, ap, ◌∙◌, inl, inr}
+use Rattle.std.specs.Prelude.{IfSome, IfNone}
+use Rattle.gft_range.specs.declared.range.Range.{Range}
+use Rattle.gft_range.specs.Range.{HasOffset}
+use Rattle.gft_range.specs.FirstGap.{IsFirstGap, HasNoGap}
+use Rattle.gft_range.specs.Set.{KeptRanges}
+use Rattle.gridftpd.specs.Cause.{HasHole}
+use Rattle.gridftpd.proofs.EndLemmas.{hole_from, done_from, stored_from, below_end, is_none, total_is}
+use Rattle.gridftpd.proofs.intake.Intake.finish.Goals as goal
+use Rattle.gridftpd.proofs.intake.Intake.finish.Goals.{then-not-self-via-then-not-self, then-not-self-via-else-not-self+then-is_some}
+
+pub returns-then-not-self-clause-caused : goal.returns-then-not-self-clause-caused
+returns-then-not-self-clause-caused g c start stream left follows done =
+    let set = c.args.self.now.keep.set.ranges in
+    let same : c.ranges-2.result.now.ranges ≡ set = ap (λ (kept : KeptRanges). kept.ranges) c.ranges-2.ensures in
+    let missing = c.first_gap-missing.result in
+    let gap : IfSome missing (IsFirstGap set) = subst (λ (rs : List Range). IfSome missing (IsFirstGap rs)) same c.first_gap-missing.ensures.gap in
+    let no_gap : IfNone missing (HasNoGap set) = subst (λ (rs : List Range). IfNone missing (HasNoGap rs)) same c.first_gap-missing.ensures.none in
+    let why : (c.args.self.now.announced ≡ false) ⊎ IsSome missing = elim c.then-not-self.branch [
+      | then-not-self-via-then-not-self w ↦ inl w.if-not-self.true
+      | then-not-self-via-else-not-self+then-is_some w ↦ inr (sym w.is_some.ensures ∙ w.if-is_some.true)
+    ] in
+    subst (λ (total : Option ℕ). HasHole stream left total 1 missing) (total_is c.args.self.now.announced ∙ sym c.then_some.ensures)
+    (hole_from g.D.Drive.state start stream c.args.self.now left missing follows done gap no_gap why)
+
+pub returns-in-Ok-clause-caused : goal.returns-in-Ok-clause-caused
+returns-in-Ok-clause-caused g c start stream left follows done =
+    let below = below_end c.args.self.now.keep.set c.ranges-2.result.now c.ranges-3.result.now c.end-end.result c.first_gap-missing.result c.ranges-2.ensures c.ranges-3.ensures (is_none c.first_gap-missing.result (sym c.is_some.ensures ∙ c.if-is_some.false)) c.first_gap-missing.ensures.none c.end-end.ensures.whole in
+    (c.end-end.result, done_from g.D.Drive.state start stream c.args.self.now c.end-end.result follows done c.if-not-self.false below)
+
+pub returns-in-Ok-clause-complete : goal.returns-in-Ok-clause-complete
+returns-in-Ok-clause-complete g c start stream follows done complete =
+    let below = below_end c.args.self.now.keep.set c.ranges-2.result.now c.ranges-3.result.now c.end-end.result c.first_gap-missing.result c.ranges-2.ensures c.ranges-3.ensures (is_none c.first_gap-missing.result (sym c.is_some.ensures ∙ c.if-is_some.false)) c.first_gap-missing.ensures.none c.end-end.ensures.whole in
+    stored_from g.D.Drive.state start stream c.args.self.now c.end-end.result (g.D.Drive.state c.finish.new.self.drive) follows done c.if-not-self.false below c.in-Ok.ensures.finished

@@ -1,0 +1,25 @@
+use Rattle.std.proofs.Common.{◌≡◌, ℕ, [], List, refl, sym, subst, arith}
+use Rattle.gft_range.specs.declared.range.Range.{Range}
+use Rattle.gft_range.specs.Range.{HasOffset}
+use Rattle.gft_drive.proofs.Steps.{Goes-refl, Reads-same}
+use Rattle.gft_drive.specs.declared.drive.Part.TheVariants.{Bytes}
+use Rattle.gridftpd.specs.Follows.{HasKeptIn}
+use Rattle.gridftpd.proofs.intake.Intake.new.Goals as goal
+
+pub returns-clause-follows : goal.returns-clause-follows
+returns-clause-follows g c =
+    let none = λ (x : ℕ) (had : HasOffset c.args.keep.set.ranges x). subst (λ (rs : List Range). HasOffset rs x) c.requires.empty had in
+    record {
+      told = [];
+      carried = λ later. sym (c.new.ensures.to_come later);
+      offsets = λ x. (none x, λ came. absurd came);
+      kept = Reads-same Bytes (HasKeptIn [] c.args.keep.set.ranges) (g.D.Drive.state c.args.keep.drive) (λ xs x had. absurd (none x had));
+      holds = λ image told x had. absurd (none x had);
+      goes = Goes-refl (g.D.Drive.state c.args.keep.drive);
+      whole = c.requires.whole;
+      announced = refl;
+      eods = refl;
+      taken = c.new.ensures.taken;
+      unfinished = λ zero. tt;
+      in_time = λ n lt. absurd (omega arith);
+    }

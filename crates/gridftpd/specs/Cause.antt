@@ -1,0 +1,74 @@
+-- What each outcome says of the bytes that were taken of the input, and of what is left of it.
+use Rattle.std.specs.Prelude.{◌≡◌, ◌≢◌, ℕ, ◌<◌, ◌⊎◌, ◌↔◌, List, [], ◌∷◌, ◌++◌, length, Option, None, Some, IsSome}
+use Rattle.std.specs.Io.KnownBytes.{Consumes, IsAtEnd}
+use Rattle.gft_base.specs.Arrival.{Arrival, Eof, Eod, Bad, Arrives, totals, eods}
+use Rattle.gft_base.specs.Done.{IsDone, first_of}
+use Rattle.gft_range.specs.declared.range.Range.{Range}
+use Rattle.gft_range.specs.Range.{InRange, HasOffset}
+use Rattle.gft_eblock.specs.declared.channel.TheConstants.{MOST_BYTES}
+use Rattle.gft_eblock.specs.Arrivals.{arrivals, data_at, IsUnfinished}
+use Rattle.gft_eblock.specs.Channel.{refusal_of}
+use Rattle.gft_keep.specs.Store.{IsFull, block_of}
+use Rattle.gridftpd.specs.declared.outcome.Outcome.{Outcome}
+use Rattle.gridftpd.specs.declared.outcome.Outcome.TheVariants as outcome
+
+-- the arrivals of the one recorded channel
+abbrev pub told_by : List ℕ → List Arrival
+told_by stream = arrivals 0 stream
+
+-- the input ended after a byte, without an EOD
+pub record IsLost (stream : List ℕ) (left : Option (List ℕ)) (taken : ℕ) : Type 0 where
+  pub some : 0 < taken
+  pub taken_is : length stream ≡ taken
+  pub unfinished : IsUnfinished (told_by stream)
+  pub at_end : IsAtEnd left
+
+-- the first offsets below the greatest end at which no byte arrives; none where there are none
+abbrev pub IsFirstMissing : List Arrival → Option Range → Type 0
+IsFirstMissing list None = (x y : ℕ) → x < y → Arrives list y → Arrives list x
+IsFirstMissing list (Some gap) =
+    (gap.start < gap.end) × ((x : ℕ) → x < gap.start → Arrives list x) × ((x : ℕ) → InRange gap x → ¬ Arrives list x) × Arrives list gap.end
+
+-- no byte came, or the EOD did; and no total was announced, or offsets are missing
+pub record HasHole (stream : List ℕ) (left : Option (List ℕ)) (total : Option ℕ) (number : ℕ) (missing : Option Range) : Type 0 where
+  pub ended : ((stream ≡ []) × IsAtEnd left) ⊎ (eods (told_by stream) ≡ 1)
+  pub announced : total ≡ first_of (totals (told_by stream))
+  pub counted : number ≡ eods (told_by stream)
+  pub first_missing : IsFirstMissing (told_by stream) missing
+  pub why : (total ≡ None) ⊎ IsSome missing
+
+-- an EOF header announces another total than 1, or is the second one
+pub record HasOtherTotal (list : List Arrival) (total : ℕ) : Type 0 where
+  pub earlier : List Arrival
+  pub later : List Arrival
+  pub split : list ≡ earlier ++ Eof total ∷ later
+  pub other : (total ≢ 1) ⊎ (totals earlier ≢ [])
+
+-- as many ranges arrived as may be kept, and a piece of data would make one more
+pub record NeedsMoreRanges (list : List Arrival) : Type 0 where
+  pub earlier : List Arrival
+  pub offset : ℕ
+  pub bytes : List ℕ
+  pub later : List Arrival
+  pub split : list ≡ earlier ++ (data_at offset bytes ++ later)
+  pub ranges : List Range
+  pub offsets : (x : ℕ) → HasOffset ranges x ↔ Arrives earlier x
+  pub full : IsFull ranges (block_of offset bytes)
+
+-- a bad header ends the arrivals
+pub record EndsBad (list last : List Arrival) : Type 0 where
+  pub earlier : List Arrival
+  pub split : list ≡ earlier ++ last
+
+-- what an outcome says of the bytes that were taken, and of those that are left; a fault and want of memory say nothing of them
+abbrev pub IsCause : Outcome → List ℕ → Option (List ℕ) → Type 0
+IsCause outcome.Complete stream left = (end : ℕ) × IsDone (told_by stream) end
+IsCause (outcome.Lost taken) stream left = IsLost stream left taken
+IsCause (outcome.Hole total number missing) stream left = HasHole stream left total number missing
+IsCause (outcome.BadBlock bad) stream left = EndsBad (told_by stream) (Bad (refusal_of bad) ∷ [])
+IsCause (outcome.OtherTotal total) stream left = HasOtherTotal (told_by stream) total
+IsCause outcome.TooLong stream left = length stream ≡ MOST_BYTES
+IsCause (outcome.RangesFull kept) stream left = NeedsMoreRanges (told_by stream)
+IsCause outcome.ReadFailed stream left = Unit {0}
+IsCause outcome.DriveFailed stream left = Unit {0}
+IsCause outcome.OutOfMemory stream left = Unit {0}

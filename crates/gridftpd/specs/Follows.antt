@@ -1,0 +1,31 @@
+-- How an intake stands to the bytes that it took.
+use Rattle.std.specs.Prelude.{◌≡◌, ℕ, ◌<◌, ◌↔◌, Some, List, [], ◌∷◌, ◌++◌, if◌then◌else◌, false, length, take, slice_index}
+use Rattle.gft_base.specs.Arrival.{Arrival, Arrives, totals, eods}
+use Rattle.gft_base.specs.Kept.{kept_byte}
+use Rattle.gft_range.specs.declared.range.Range.{Range}
+use Rattle.gft_range.specs.Range.{HasOffset}
+use Rattle.gft_drive.specs.Drive.{DriveState, Goes, Reads}
+use Rattle.gft_drive.specs.declared.drive.Part.TheVariants.{Bytes}
+use Rattle.gft_keep.specs.Holds.{Holds}
+use Rattle.gft_eblock.specs.Arrivals.{arrivals, IsUnfinished}
+use Rattle.gft_eblock.specs.Channel.{to_come}
+use Rattle.gridftpd.specs.declared.intake.Intake.{Intake}
+
+-- at each offset of the set the file has the kept byte
+abbrev pub HasKeptIn : List Arrival → List Range → List ℕ → List ℕ → Type 0
+HasKeptIn told set before after = (x : ℕ) → HasOffset set x → kept_byte told x ≡ Some (slice_index after x)
+
+-- the intake took this stream since its drive was in the state `start`, and was told of so many EODs
+pub record Follows {D : Type 0} (state : D → DriveState) (start : DriveState) (number : ℕ) (stream : List ℕ) (intake : Intake D) : Type 0 where
+  pub told : List Arrival
+  pub carried : (later : List ℕ) → arrivals 0 (stream ++ later) ≡ told ++ to_come intake.channel later
+  pub offsets : (x : ℕ) → HasOffset intake.keep.set.ranges x ↔ Arrives told x
+  pub kept : Reads Bytes (HasKeptIn told intake.keep.set.ranges) start (state intake.keep.drive)
+  pub holds : Holds intake.keep.set.ranges (state intake.keep.drive)
+  pub goes : Goes start (state intake.keep.drive)
+  pub whole : intake.keep.broken ≡ false
+  pub announced : totals told ≡ (if intake.announced then 1 ∷ [] else [])
+  pub eods : eods told ≡ number
+  pub taken : intake.channel.taken ≡ length stream
+  pub unfinished : number ≡ 0 → IsUnfinished told
+  pub in_time : (n : ℕ) → n < length stream → IsUnfinished (arrivals 0 (take n stream))

@@ -1,0 +1,156 @@
+ghost use Rattle.std.specs.Prelude.{◌≡◌, ℕ, ◌≤◌, ◌⊎◌, List, Option, Some, None, IsSomeAnd, IfOk, OnErr, string_bytes};
+ghost use Rattle.std.specs.Io.KnownBytes.{Appends};
+ghost use Rattle.gft_base.specs.Causes.{Rose};
+ghost use Rattle.gft_drive.specs.Drive.{Goes, Reads};
+ghost use Rattle.gft_drive.specs.declared.drive.Part.TheVariants.{Bytes};
+ghost use Rattle.gridftpd.specs.Words.{AreDrainWords};
+ghost use Rattle.gridftpd.specs.Cause.{IsCause, told_by};
+ghost use Rattle.gridftpd.specs.Drain.{IsTaken, IsStored, IsTold, IsPut, IsRefusal, IsHonest, IsFile};
+ghost use Rattle.gridftpd.specs.Line.{usage_text, complete_text, text_of, read_failed_text, drive_failed_text, out_of_memory_text};
+ghost use Rattle.gridftpd.specs.declared.outcome.Outcome.{Outcome};
+
+use crate::intake::Intake;
+use crate::line::{
+    complete_line, drive_failed_line, hole_line, lost_line, not_built_line, out_of_memory_line,
+    read_failed_line, usage_line,
+};
+use crate::outcome::Outcome;
+use crate::status::Status;
+use crate::words::are_drain_words;
+use gft_base::Failed;
+use gft_drive::{Drive, Origin, Sink, Source};
+use gft_keep::{AttachError, Keep};
+use std::alloc::{AllocError, Global};
+
+/// The most bytes of one read.
+const READ_LEN: usize = 65_536;
+
+/// Stores one recorded data connection (GFD.20, extended block mode) as a file, prints one line, and
+/// gives the exit status with the drive. It reads up to the EOD, and leaves what follows unread.
+///
+/// | Status | Line |
+/// |---|---|
+/// | 0 | `226 Transfer complete.`: the total is announced, its EODs came, and the data covers the file |
+/// | 1 | a 426 line: the input was lost, has a hole or isn't built |
+/// | 2 | `usage: gridftpd drain NAME`: other words |
+/// | 3 | `451 Read failed.`: a read of the input failed |
+/// | 4 | a part of the line: a put failed |
+/// | 5 | `451 Drive failed.`: a call of the drive failed |
+/// | 6 | `455 Out of memory.` |
+pub fn drain<I: Source, W: Sink, D: Drive + Drop, O: Origin>(
+    alloc: Global,
+    words: &[String],
+    input: &mut I,
+    out: &mut W,
+    drive: D,
+) -> (u8, Option<D>)
+    requires open { W.is_open out.old }
+
+    // Status 0 only where the arrivals up to the EOD are done; then the file is the kept bytes, and the line says so.
+    ensures complete { result.0 ≡ 0 → (stream : List ℕ) × IsTaken (I.left input.old) (I.left input.new) stream
+        × IsSomeAnd result.1 (λ back. IsStored stream (D.state drive) (D.state back))
+        × Appends (W.written out.old) (W.written out.new) complete_text }
+
+    // Status 1 only with the line of an outcome that the bytes taken show.
+    ensures refused { result.0 ≡ 1 → (outcome : Outcome) × (stream : List ℕ) × IsTaken (I.left input.old) (I.left input.new) stream
+        × IsRefusal outcome × IsCause outcome stream (I.left input.new)
+        × Appends (W.written out.old) (W.written out.new) (text_of outcome) }
+
+    ensures usage { result.0 ≡ 2 → ¬ AreDrainWords words.now × Appends (W.written out.old) (W.written out.new) usage_text }
+    ensures read_failed { result.0 ≡ 3 → Rose (I.faults input.old) (I.faults input.new) × Appends (W.written out.old) (W.written out.new) read_failed_text }
+    ensures put_failed { result.0 ≡ 4 → Rose (W.faults out.old) (W.faults out.new) }
+    ensures drive_failed { result.0 ≡ 5 → IsSomeAnd result.1 (λ back. Rose (D.state drive).faults (D.state back).faults)
+        × Appends (W.written out.old) (W.written out.new) drive_failed_text }
+    ensures memory { result.0 ≡ 6 → Appends (W.written out.old) (W.written out.new) out_of_memory_text }
+    ensures statuses { result.0 ≤ 6 }
+
+    // Other words touch nothing but the line; else the drive comes back.
+    ensures other_words { ¬ AreDrainWords words.now → ((result.0 ≡ 2) ⊎ (result.0 ≡ 4)) × (result.1 ≡ None) × (input.new ≡ input.old) }
+    ensures back { AreDrainWords words.now → IsSomeAnd result.1 (λ back. Goes (D.state drive) (D.state back)) }
+
+    // From an honest sender of a named source, status 0 comes only with the equal file.
+    ensures equal { (source bytes : List ℕ) → O.source (D.state drive).label ≡ Some source → I.left input.old ≡ Some bytes → IsHonest source (told_by bytes)
+        → result.0 ≡ 0 → IsSomeAnd result.1 (λ back. Reads Bytes (IsFile source) (D.state drive) (D.state back)) }
+{
+    if !are_drain_words(words) {
+        return (refuse_words(out).number(), None);
+    }
+    let (outcome, drive) = store_input(alloc, input, drive);
+    (tell(alloc, out, &outcome).number(), Some(drive))
+}
+
+/// Stores what comes from the input as the drive's file, and gives the drive back.
+fn store_input<I: Source, D: Drive + Drop>(alloc: Global, input: &mut I, drive: D) -> (Outcome, D)
+    ensures caused { (stream : List ℕ) × IsTaken (I.left input.old) (I.left input.new) stream × IsCause result.0 stream (I.left input.new)
+        × (result.0 ≡ Outcome.Complete → IsStored stream (D.state drive) (D.state result.1)) }
+    ensures read_failed { result.0 ≡ Outcome.ReadFailed → Rose (I.faults input.old) (I.faults input.new) }
+    ensures drive_failed { result.0 ≡ Outcome.DriveFailed → Rose (D.state drive).faults (D.state result.1).faults }
+    ensures goes { Goes (D.state drive) (D.state result.1) }
+{
+    let Ok(mut buf) = vec![in alloc; 0u8; READ_LEN] else {
+        return (Outcome::OutOfMemory, drive);
+    };
+    let mut keep = match Keep::attach(alloc, drive) {
+        Ok(keep) => keep,
+        Err((AttachError::Failed, drive)) => return (Outcome::DriveFailed, drive),
+    };
+    if let Err(Failed) = keep.fresh() {
+        return (Outcome::DriveFailed, keep.into_drive());
+    }
+    let mut intake = Intake::new(keep);
+    let outcome = intake.run(input, &mut buf);
+    (outcome, intake.into_drive())
+}
+
+/// Prints the line of an outcome, and gives its status.
+pub(crate) fn tell<W: Sink>(alloc: Global, out: &mut W, outcome: &Outcome) -> Status
+    requires open { W.is_open out.old }
+    ensures { IsTold outcome.now result (W.written out.old) (W.written out.new) (W.faults out.old) (W.faults out.new) }
+{
+    match *outcome {
+        Outcome::Complete => put(out, complete_line(), Status::Complete),
+        Outcome::Lost { taken } => put_made(out, lost_line(alloc, taken)),
+        Outcome::Hole {
+            total,
+            eods,
+            missing,
+        } => put_made(out, hole_line(alloc, total, eods, missing)),
+        Outcome::BadBlock(_)
+        | Outcome::OtherTotal { .. }
+        | Outcome::TooLong
+        | Outcome::RangesFull { .. } => put(out, not_built_line(), Status::Refused),
+        Outcome::ReadFailed => put(out, read_failed_line(), Status::ReadFailed),
+        Outcome::DriveFailed => put(out, drive_failed_line(), Status::DriveFailed),
+        Outcome::OutOfMemory => put(out, out_of_memory_line(), Status::OutOfMemory),
+    }
+}
+
+fn refuse_words<W: Sink>(out: &mut W) -> Status
+    requires open { W.is_open out.old }
+    ensures { IsPut Status.Usage usage_text result (W.written out.old) (W.written out.new) (W.faults out.old) (W.faults out.new) }
+{
+    put(out, usage_line(), Status::Usage)
+}
+
+/// Puts the line of a refusal, or where memory for it was refused the line of that.
+fn put_made<W: Sink>(out: &mut W, made: Result<String, AllocError>) -> Status
+    requires open { W.is_open out.old }
+    ensures made { IfOk made (λ line. IsPut Status.Refused (string_bytes line) result (W.written out.old) (W.written out.new) (W.faults out.old) (W.faults out.new)) }
+    ensures refused { OnErr made (IsPut Status.OutOfMemory out_of_memory_text result (W.written out.old) (W.written out.new) (W.faults out.old) (W.faults out.new)) }
+{
+    match made {
+        Ok(line) => put(out, line.as_bytes(), Status::Refused),
+        Err(_) => put(out, out_of_memory_line(), Status::OutOfMemory),
+    }
+}
+
+/// Puts a line, and gives the status that it stands for, or that of a put that failed.
+fn put<W: Sink>(out: &mut W, line: &[u8], status: Status) -> Status
+    requires open { W.is_open out.old }
+    ensures { IsPut status line.now result (W.written out.old) (W.written out.new) (W.faults out.old) (W.faults out.new) }
+{
+    match out.put(line) {
+        Ok(()) => status,
+        Err(Failed) => Status::PutFailed,
+    }
+}

@@ -1,0 +1,172 @@
+ghost use Rattle.std.specs.Prelude.{◌≡◌, ℕ, ◌+◌, ◌<◌, ◌≤◌, ◌↔◌, List, [], ◌++◌, length, IsTrue, IfErr, IfOk, ◌⊎◌, OnOk, OnErr, if◌then◌else◌, false, true, Some, None, Option};
+ghost use Rattle.std.specs.Io.KnownBytes.{IsAtEnd};
+ghost use Rattle.gft_base.specs.Causes.{Rose};
+ghost use Rattle.gft_drive.specs.Drive.{DriveState, Goes};
+ghost use Rattle.gft_eblock.specs.Channel.{wanted, IsDone};
+ghost use Rattle.gft_keep.specs.Holds.{Holds};
+ghost use Rattle.gridftpd.specs.Cause.{IsCause};
+ghost use Rattle.gridftpd.specs.Drain.{IsTaken, IsStored};
+ghost use Rattle.gridftpd.specs.Turn.{IsTurnsOutcome, IsEndsOutcome};
+
+use crate::outcome::Outcome;
+use crate::reading::read_next;
+use gft_base::Failed;
+use gft_drive::{Drive, Source};
+use gft_eblock::{Channel, Event, MOST_BYTES};
+use gft_keep::{Keep, KeepError};
+
+/// One recorded data connection on its way into a file: the channel, the file with its set, and
+/// whether a total of 1 was announced.
+#[derive(Drop)]
+pub(crate) struct Intake<D: Drive + Drop> {
+    channel: Channel,
+    keep: Keep<D>,
+    announced: bool,
+}
+
+impl<D: Drive + Drop> Intake<D> {
+    ghost use Rattle.gridftpd.specs.Follows.{Follows};
+
+    /// An intake before its first byte.
+    pub(crate) fn new(keep: Keep<D>) -> Self
+        requires whole { keep.broken ≡ false }
+        requires empty { keep.set.ranges ≡ [] }
+        ensures follows { Follows D.state (D.state keep.drive) 0 [] result }
+        ensures not_done { ¬ IsDone result.channel }
+        ensures keep { result.keep ≡ keep }
+    {
+        Intake {
+            channel: Channel::new(0),
+            keep,
+            announced: false,
+        }
+    }
+
+    /// Gives the drive back.
+    pub(crate) fn into_drive(self) -> D
+        ensures { result ≡ self.keep.drive }
+    {
+        self.keep.into_drive()
+    }
+
+    /// Takes one recorded data connection up to its EOD or the end of the input.
+    pub(crate) fn run<I: Source>(&mut self, input: &mut I, buf: &mut [u8]) -> Outcome
+        requires room { 0 < length buf.old }
+        requires follows { Follows D.state (D.state self.old.keep.drive) 0 [] self.old }
+        requires not_done { ¬ IsDone self.old.channel }
+        ensures caused { (stream : List ℕ) × IsTaken (I.left input.old) (I.left input.new) stream × IsCause result stream (I.left input.new)
+            × (result ≡ Outcome.Complete → IsStored stream (D.state self.old.keep.drive) (D.state self.new.keep.drive)) }
+        ensures read_failed { result ≡ Outcome.ReadFailed → Rose (I.faults input.old) (I.faults input.new) }
+        ensures drive_failed { result ≡ Outcome.DriveFailed → Rose (D.state self.old.keep.drive).faults (D.state self.new.keep.drive).faults }
+        ensures faults { (D.state self.old.keep.drive).faults ≤ (D.state self.new.keep.drive).faults }
+        ensures goes { Goes (D.state self.old.keep.drive) (D.state self.new.keep.drive) }
+    {
+        'reads: loop {
+            let wants = self.channel.wants();
+            let room = MOST_BYTES - self.channel.taken();
+            let Ok(count) = read_next(input, buf, wants.min(room)) else {
+                return Outcome::ReadFailed;
+            };
+            if count == 0 && wants > 0 {
+                return self.lost();
+            }
+            if count as u64 == room {
+                return Outcome::TooLong;
+            }
+            match self.turn(&buf[..count]) {
+                Ok(true) => return self.finish(),
+                Ok(false) => {}
+                Err(outcome) => return outcome,
+            }
+        }
+    }
+
+    /// Feeds one piece, and tells whether the EOD came.
+    fn turn(&mut self, piece: &[u8]) -> Result<bool, Outcome>
+        requires not_done { ¬ IsDone self.old.channel }
+        requires room { self.old.channel.taken + length piece.now ≤ MOST_BYTES }
+        requires wanted { length piece.now ≤ wanted self.old.channel }
+        requires whole { self.old.keep.broken ≡ false }
+        requires holds { Holds self.old.keep.set.ranges (D.state self.old.keep.drive) }
+        ensures follows { IfOk result (λ ended. (start : DriveState) (stream : List ℕ) → Follows D.state start 0 stream self.old
+            → Follows D.state start (if ended then 1 else 0) (stream ++ piece.now) self.new) }
+        ensures ended { IfOk result (λ ended. IsTrue ended ↔ IsDone self.new.channel) }
+        ensures waiting { IfOk result (λ ended. wanted self.old.channel ≡ 0 → IsTrue ended) }
+        ensures caused { IfErr result (λ outcome. (start : DriveState) (stream : List ℕ) (left : Option (List ℕ)) → Follows D.state start 0 stream self.old
+            → IsCause outcome (stream ++ piece.now) left) }
+        ensures which { IfErr result IsTurnsOutcome }
+        ensures drive_failed { result ≡ Err Outcome.DriveFailed → Rose (D.state self.old.keep.drive).faults (D.state self.new.keep.drive).faults }
+        ensures faults { (D.state self.old.keep.drive).faults ≤ (D.state self.new.keep.drive).faults }
+        ensures goes { Goes (D.state self.old.keep.drive) (D.state self.new.keep.drive) }
+    {
+        let step = match self.channel.feed(piece) {
+            Ok(step) => step,
+            Err(bad) => return Err(Outcome::BadBlock(bad)),
+        };
+        let Some(event) = step.event else {
+            return Ok(false);
+        };
+        match event {
+            Event::Piece { offset, bytes } => match self.keep.store(offset, bytes) {
+                Ok(_) => Ok(false),
+                Err(KeepError::RangesFull { kept }) => Err(Outcome::RangesFull { kept }),
+                Err(KeepError::OutOfMemory) => Err(Outcome::OutOfMemory),
+                Err(KeepError::Failed) => Err(Outcome::DriveFailed),
+            },
+            Event::Eof { total } => {
+                if total != 1 || self.announced {
+                    return Err(Outcome::OtherTotal { total });
+                }
+                self.announced = true;
+                Ok(false)
+            }
+            Event::Eod => Ok(true),
+        }
+    }
+
+    /// The outcome where the input ended before the EOD.
+    fn lost(&self) -> Outcome
+        requires awaits { 0 < wanted self.now.channel }
+        ensures caused { (start : DriveState) (stream : List ℕ) (left : Option (List ℕ)) → Follows D.state start 0 stream self.now → IsAtEnd left
+            → IsCause result stream left }
+        ensures which { (result ≡ Outcome.Hole None 0 None) ⊎ (result ≡ Outcome.Lost self.now.channel.taken) }
+    {
+        let taken = self.channel.taken();
+        if taken > 0 {
+            return Outcome::Lost { taken };
+        }
+        Outcome::Hole {
+            total: None,
+            eods: 0,
+            missing: None,
+        }
+    }
+
+    /// The outcome where the EOD came.
+    fn finish(&mut self) -> Outcome
+        requires whole { self.old.keep.broken ≡ false }
+        requires holds { Holds self.old.keep.set.ranges (D.state self.old.keep.drive) }
+        ensures caused { (start : DriveState) (stream : List ℕ) (left : Option (List ℕ)) → Follows D.state start 1 stream self.old → IsDone self.old.channel
+            → IsCause result stream left }
+        ensures complete { (start : DriveState) (stream : List ℕ) → Follows D.state start 1 stream self.old → IsDone self.old.channel → result ≡ Outcome.Complete
+            → IsStored stream start (D.state self.new.keep.drive) }
+        ensures which { IsEndsOutcome result }
+        ensures drive_failed { result ≡ Outcome.DriveFailed → Rose (D.state self.old.keep.drive).faults (D.state self.new.keep.drive).faults }
+        ensures faults { (D.state self.old.keep.drive).faults ≤ (D.state self.new.keep.drive).faults }
+        ensures goes { Goes (D.state self.old.keep.drive) (D.state self.new.keep.drive) }
+    {
+        let missing = self.keep.ranges().first_gap();
+        if !self.announced || missing.is_some() {
+            return Outcome::Hole {
+                total: self.announced.then_some(1),
+                eods: 1,
+                missing,
+            };
+        }
+        let end = self.keep.ranges().end();
+        match self.keep.finish(end) {
+            Ok(()) => Outcome::Complete,
+            Err(Failed) => Outcome::DriveFailed,
+        }
+    }
+}

@@ -1,0 +1,56 @@
+//! `gridftpd drain NAME` stores one recorded data connection, read from standard input, as the file
+//! NAME in the current folder, and prints one line.
+#![tactic(auto)]
+
+mod draining;
+mod intake;
+mod line;
+mod outcome;
+mod reading;
+mod status;
+#[cfg(test)]
+mod tests;
+mod words;
+
+use crate::draining::{drain, tell};
+use crate::outcome::Outcome;
+use gft_drive::{FileDrive, ReadSource, Unknown, WriteSink};
+use std::io::ErrorKind;
+use std::process::ExitCode;
+use std::rt::Env;
+use std::{env, io};
+
+fn main(rt: HostRuntime) -> ExitCode {
+    let alloc = rt.alloc();
+    let mut input = ReadSource::new(rt.stdin());
+    let mut out = WriteSink::new(rt.stdout());
+    let (words, path) = match words_and_path(&rt) {
+        Ok(both) => both,
+        Err(error) if error.kind() == ErrorKind::OutOfMemory => {
+            let status = tell(alloc, &mut out, &Outcome::OutOfMemory);
+            return ExitCode::from(status.number());
+        }
+        // A word that isn't UTF-8 is none of `drain`'s.
+        Err(_) => (Vec::new(alloc), String::new(alloc)),
+    };
+    let drive = FileDrive::at(rt, path);
+    let (status, _drive) = drain::<_, _, _, Unknown>(
+        alloc,
+        words.as_slice(),
+        &mut input,
+        &mut out,
+        drive,
+    );
+    ExitCode::from(status)
+}
+
+/// The words behind the program's name, and the last of them, which names the file; no file is
+/// touched where `drain` refuses the words.
+fn words_and_path(rt: &(impl Env + AllocGlobal)) -> io::Result<(Vec<String>, String)> {
+    let mut words = env::args(rt)?.skip(1).collect::<Vec<String>>(rt.alloc())?;
+    let path = match words.last() {
+        Some(name) => name.clone()?,
+        None => String::new(rt.alloc()),
+    };
+    Ok((words, path))
+}
