@@ -8,24 +8,198 @@ use std::process::Abort;
 use std::test::Fail;
 
 /// Flags, offset and bytes of a block.
-type Block<'a> = (u8, u64, &'a str);
+type Block = (u8, u64, &'static str);
 
 /// What comes of `drain` over a recording of which only the first bytes are there.
-#[derive(Drop)]
-struct Row<'a> {
-    words: &'a [&'a str],
-    blocks: &'a [Block<'a>],
+struct Row {
+    words: &'static [&'static str],
+    blocks: &'static [Block],
     there: usize,
     status: u8,
-    line: &'a str,
-    file: Option<&'a str>,
+    line: &'static str,
+    file: Option<&'static str>,
 }
 
 const GOOD: &[&str] = &["drain", "a.dat"];
 
 const ALL: usize = usize::MAX;
 
-fn recording(alloc: Global, blocks: &[Block<'_>]) -> Result<Vec<u8>, AllocError> {
+const COMPLETE: &str = "226 Transfer complete.\n";
+
+const NOT_BUILT: &str = "426 Not built: this input.\n";
+
+const USAGE: &str = "usage: gridftpd drain NAME\n";
+
+const LONG: &str =
+    "nnnnnnnnnnnnnnnnnnnnnnnnnnnnnnnnnnnnnnnnnnnnnnnnnnnnnnnnnnnnnnnnnnnnnnnnnnnnnnnnnnnnnnnnnnnnnnnnnnnnnnnnnnnnnnnnnnnnnnnnnnnnnnnnnnnnnnnnnnnnnnnnnnnnnnnnnnnnnnnnnnnnnnnnnnnnnnnnnnnnnnnnnnnnnnnnnnnnnnnnn";
+
+static RECORDINGS: [Row; 11] = [
+    Row {
+        words: GOOD,
+        blocks: &[(0, 0, "hello"), (64, 1, ""), (12, 0, "")],
+        there: ALL,
+        status: 0,
+        line: COMPLETE,
+        file: Some("hello"),
+    },
+    Row {
+        words: GOOD,
+        blocks: &[(64, 1, ""), (8, 0, "")],
+        there: ALL,
+        status: 0,
+        line: COMPLETE,
+        file: Some(""),
+    },
+    Row {
+        words: GOOD,
+        blocks: &[(0, 0, "HELLO"), (0, 0, "helloX"), (64, 1, ""), (12, 0, "")],
+        there: ALL,
+        status: 0,
+        line: COMPLETE,
+        file: Some("HELLOX"),
+    },
+    Row {
+        words: GOOD,
+        blocks: &[(0, 0, "hello"), (64, 1, ""), (12, 0, "")],
+        there: 16,
+        status: 1,
+        line: "426 Channel lost: lane 0, channel 0, 16 bytes taken.\n",
+        file: Some(""),
+    },
+    Row {
+        words: GOOD,
+        blocks: &[(0, 0, "hello"), (64, 1, ""), (12, 0, "")],
+        there: 20,
+        status: 1,
+        line: "426 Channel lost: lane 0, channel 0, 20 bytes taken.\n",
+        file: None,
+    },
+    Row {
+        words: GOOD,
+        blocks: &[(0, 0, "hello"), (0, 7, "xy"), (64, 1, ""), (8, 0, "")],
+        there: ALL,
+        status: 1,
+        line: "426 Hole: total 1, EODs 1, first missing 5-7.\n",
+        file: None,
+    },
+    Row {
+        words: GOOD,
+        blocks: &[(0, 0, "hello"), (64, 1, ""), (12, 0, "")],
+        there: 0,
+        status: 1,
+        line: "426 Hole: total none, EODs 0, first missing none.\n",
+        file: Some(""),
+    },
+    Row {
+        words: GOOD,
+        blocks: &[(0, 2, "cd"), (0, 0, "ab"), (8, 4, "e")],
+        there: ALL,
+        status: 1,
+        line: "426 Hole: total none, EODs 1, first missing none.\n",
+        file: None,
+    },
+    Row {
+        words: GOOD,
+        blocks: &[(64, 2, "")],
+        there: ALL,
+        status: 1,
+        line: NOT_BUILT,
+        file: None,
+    },
+    Row {
+        words: GOOD,
+        blocks: &[(64, 1, ""), (64, 1, "")],
+        there: ALL,
+        status: 1,
+        line: NOT_BUILT,
+        file: None,
+    },
+    Row {
+        words: GOOD,
+        blocks: &[(16, 0, "a")],
+        there: ALL,
+        status: 1,
+        line: NOT_BUILT,
+        file: None,
+    },
+];
+
+static OTHER_WORDS: [Row; 9] = [
+    Row {
+        words: &[],
+        blocks: &[(0, 0, "hello"), (64, 1, ""), (12, 0, "")],
+        there: ALL,
+        status: 2,
+        line: USAGE,
+        file: None,
+    },
+    Row {
+        words: &["drain"],
+        blocks: &[(0, 0, "hello"), (64, 1, ""), (12, 0, "")],
+        there: ALL,
+        status: 2,
+        line: USAGE,
+        file: None,
+    },
+    Row {
+        words: &["drain", ""],
+        blocks: &[(0, 0, "hello"), (64, 1, ""), (12, 0, "")],
+        there: ALL,
+        status: 2,
+        line: USAGE,
+        file: None,
+    },
+    Row {
+        words: &["drain", ".x"],
+        blocks: &[(0, 0, "hello"), (64, 1, ""), (12, 0, "")],
+        there: ALL,
+        status: 2,
+        line: USAGE,
+        file: None,
+    },
+    Row {
+        words: &["drain", "a.gfr"],
+        blocks: &[(0, 0, "hello"), (64, 1, ""), (12, 0, "")],
+        there: ALL,
+        status: 2,
+        line: USAGE,
+        file: None,
+    },
+    Row {
+        words: &["drain", "/a"],
+        blocks: &[(0, 0, "hello"), (64, 1, ""), (12, 0, "")],
+        there: ALL,
+        status: 2,
+        line: USAGE,
+        file: None,
+    },
+    Row {
+        words: &["drain", LONG],
+        blocks: &[(0, 0, "hello"), (64, 1, ""), (12, 0, "")],
+        there: ALL,
+        status: 2,
+        line: USAGE,
+        file: None,
+    },
+    Row {
+        words: &["drain", "a", "b"],
+        blocks: &[(0, 0, "hello"), (64, 1, ""), (12, 0, "")],
+        there: ALL,
+        status: 2,
+        line: USAGE,
+        file: None,
+    },
+    Row {
+        words: &["store", "a"],
+        blocks: &[(0, 0, "hello"), (64, 1, ""), (12, 0, "")],
+        there: ALL,
+        status: 2,
+        line: USAGE,
+        file: None,
+    },
+];
+
+fn recording(alloc: Global, blocks: &[Block]) -> Result<Vec<u8>, AllocError> {
     let mut stream = Vec::new(alloc);
     for &(flags, offset, text) in blocks {
         let bytes = text.as_bytes();
@@ -49,7 +223,7 @@ fn owned(alloc: Global, words: &[&str]) -> Result<Vec<String>, AllocError> {
 }
 
 /// Runs a row with at most so many bytes a read, and compares status, line and file.
-fn check<R: Abort + AllocGlobal>(rt: &R, row: &Row<'_>, most: usize) -> Result<(), Fail> {
+fn check<R: Abort + AllocGlobal>(rt: &R, row: &Row, most: usize) -> Result<(), Fail> {
     assert!(rt; most > 0);
     let alloc = rt.alloc();
     let mut stream = recording(alloc, row.blocks)?;
@@ -74,7 +248,7 @@ fn check<R: Abort + AllocGlobal>(rt: &R, row: &Row<'_>, most: usize) -> Result<(
     Ok(())
 }
 
-fn check_all<R: Abort + AllocGlobal>(rt: &R, rows: &[Row<'_>]) -> Result<(), Fail> {
+fn check_all<R: Abort + AllocGlobal>(rt: &R, rows: &[Row]) -> Result<(), Fail> {
     for row in rows {
         check(rt, row, 1)?;
         check(rt, row, 1_000)?;
@@ -84,95 +258,12 @@ fn check_all<R: Abort + AllocGlobal>(rt: &R, rows: &[Row<'_>]) -> Result<(), Fai
 
 #[test]
 fn a_recording_is_stored_or_refused_by_its_line(rt: HostRuntime) -> Result<(), Fail> {
-    let complete = "226 Transfer complete.\n";
-    let not_built = "426 Not built: this input.\n";
-    let hello = [(0, 0, "hello"), (64, 1, ""), (12, 0, "")];
-    let empty = [(64, 1, ""), (8, 0, "")];
-    let gap = [(0, 0, "hello"), (0, 7, "xy"), (64, 1, ""), (8, 0, "")];
-    let twice = [(0, 0, "HELLO"), (0, 0, "helloX"), (64, 1, ""), (12, 0, "")];
-    let bare = [(0, 2, "cd"), (0, 0, "ab"), (8, 4, "e")];
-    let row = |blocks, there, status, line, file| Row {
-        words: GOOD,
-        blocks,
-        there,
-        status,
-        line,
-        file,
-    };
-    check_all(
-        &rt,
-        &[
-            row(&hello, ALL, 0, complete, Some("hello")),
-            row(&empty, ALL, 0, complete, Some("")),
-            row(&twice, ALL, 0, complete, Some("HELLOX")),
-            row(
-                &hello,
-                16,
-                1,
-                "426 Channel lost: lane 0, channel 0, 16 bytes taken.\n",
-                Some(""),
-            ),
-            row(
-                &hello,
-                20,
-                1,
-                "426 Channel lost: lane 0, channel 0, 20 bytes taken.\n",
-                None,
-            ),
-            row(
-                &gap,
-                ALL,
-                1,
-                "426 Hole: total 1, EODs 1, first missing 5-7.\n",
-                None,
-            ),
-            row(
-                &hello,
-                0,
-                1,
-                "426 Hole: total none, EODs 0, first missing none.\n",
-                Some(""),
-            ),
-            row(
-                &bare,
-                ALL,
-                1,
-                "426 Hole: total none, EODs 1, first missing none.\n",
-                None,
-            ),
-            row(&[(64, 2, "")], ALL, 1, not_built, None),
-            row(&[(64, 1, ""), (64, 1, "")], ALL, 1, not_built, None),
-            row(&[(16, 0, "a")], ALL, 1, not_built, None),
-        ],
-    )
+    check_all(&rt, &RECORDINGS)
 }
 
 #[test]
 fn other_words_are_refused(rt: HostRuntime) -> Result<(), Fail> {
-    let long = "n".repeat(rt.alloc(), 201)?;
-    let usage = "usage: gridftpd drain NAME\n";
-    let row = |words| Row {
-        words,
-        blocks: &[],
-        there: ALL,
-        status: 2,
-        line: usage,
-        file: None,
-    };
-    check_all(
-        &rt,
-        &[
-            row(&[]),
-            row(&["drain"]),
-            row(&["drain", ""]),
-            row(&["drain", ".x"]),
-            row(&["drain", "a.gfr"]),
-            row(&["drain", "/a"]),
-            row(&["drain", long.as_str()]),
-            row(&["drain", "a", "b"]),
-            row(&["store", "a"]),
-        ],
-    )
+    check_all(&rt, &OTHER_WORDS)
 }
 
 #[test]
