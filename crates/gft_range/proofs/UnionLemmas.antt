@@ -1,8 +1,8 @@
 -- Each normal list has a union with a range.
-use Rattle.std.proofs.Common.{◌≡◌, ℕ, ◌<◌, ◌≤◌, ◌⊎◌, ◌↔◌, inl, inr, min, max, List, [], ◌∷◌, arith}
+use Rattle.std.proofs.Common.{ℕ, ◌<◌, ◌≤◌, ◌⊎◌, ◌↔◌, inl, inr, min, max, List, [], ◌∷◌, arith}
 use Rattle.std.proofs.lemmas.Bool.{cases_lt}
 use Rattle.gft_range.specs.declared.range.Range.{Range}
-use Rattle.gft_range.specs.Range.{InRange, HasOffset}
+use Rattle.gft_range.specs.Range.{InRange}
 use Rattle.gft_range.specs.Normal.{IsNormal, BeginsAbove}
 use Rattle.gft_range.specs.Set.{IsUnion}
 

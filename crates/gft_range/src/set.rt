@@ -142,6 +142,7 @@ impl RangeSet {
         requires room { 1 ≤ self.old.spare }
         ensures union { IsUnion self.old.ranges r self.new.ranges }
         ensures spare { self.old.spare ≤ self.new.spare + 1 }
+        ensures count { length self.new.ranges ≤ length self.old.ranges + 1 }
     {
         let at = first_reaching(&self.ranges, r.start);
         let joined = take_joined(&mut self.ranges, at, r);
