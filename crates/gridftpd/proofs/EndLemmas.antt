@@ -1,9 +1,10 @@
 -- What an intake that ended says of its stream.
-use Rattle.std.proofs.Common.{◌≡◌, ◌≢◌, ℕ, ◌+◌, ◌<◌, ◌≤◌, ◌⊎◌, ◌↔◌, Bool, true, false, cond, List, [], ◌∷◌, ◌++◌, length, take, drop, Option, Some, None, IsSome, append_assoc, append-nil, refl, sym, ap, ◌∙◌, subst, arith, inl, inr, Bor}
+use Rattle.std.proofs.Common.{◌≡◌, ◌≢◌, ℕ, ◌+◌, ◌<◌, ◌≤◌, ◌⊎◌, ◌↔◌, Bool, true, false, cond, List, [], ◌∷◌, ◌++◌, length, length-append, take, drop, Option, Some, None, IsSome, append_assoc, append-nil, refl, sym, ap, ◌∙◌, subst, arith, inl, inr, Bor}
 use Rattle.std.specs.Prelude.{slice_index, is_some, IfNone, IfSome}
 use Rattle.std.specs.Bool.{then_some}
 use Rattle.std.specs.Io.KnownBytes.{Consumes, IsAtEnd}
-use Rattle.std.proofs.lemmas.List.{take_all, get_or-take, take-append-drop}
+use Rattle.std.proofs.lemmas.List.{take_all, get_or-take, take-append-drop, length-take-le}
+use Rattle.std.proofs.lemmas.Bool.{cases_lt}
 use Rattle.gft_base.specs.Causes.{Rose}
 use Rattle.gft_base.specs.Arrival.{Arrival, Eof, Eod, Bad, Arrives, totals, eods}
 use Rattle.gft_base.specs.Kept.{kept_byte, HasKept}
@@ -24,7 +25,7 @@ use Rattle.gft_eblock.specs.Arrivals.{arrivals, blocks_from, data_at, IsUnfinish
 use Rattle.gft_eblock.specs.Channel.{Reader, to_come, wanted, refusal_of}
 use Rattle.gft_eblock.specs.Channel as channel
 use Rattle.gft_eblock.specs.Feeding.{Advances, Fails, event_arrivals}
-use Rattle.gft_eblock.proofs.ToComeLemmas.{to_come-done, to_come-nothing}
+use Rattle.gft_eblock.proofs.ToComeLemmas.{to_come-done, to_come-nothing, to_come-early}
 use Rattle.gridftpd.specs.declared.intake.Intake.{Intake}
 use Rattle.gridftpd.specs.Cause.{told_by, IsLost, HasHole, IsFirstMissing, HasOtherTotal, NeedsMoreRanges, EndsBad}
 use Rattle.gridftpd.specs.Drain.{IsStored}
@@ -62,7 +63,7 @@ empty_list (x ∷ xs) none = absurd (omega arith)
 pub Consumes-nothing : (a b c : Option (List ℕ)) (s t : List ℕ) → t ≡ [] → Consumes a b s → Consumes b c t → Consumes a c s
 Consumes-nothing a b c s t none first next = subst (Consumes a c) (ap (λ rest. s ++ rest) none ∙ append-nil s) (Consumes-append a b c s t first next)
 
-no_arrivals : arrivals 0 [] ≡ []
+pub no_arrivals : arrivals 0 [] ≡ []
 unfolding arrivals blocks_from
 no_arrivals = refl
 
@@ -143,11 +144,24 @@ module _ {D : Type 0} (state : D → DriveState) (start : DriveState) (stream : 
 
   -- ---- one piece more
 
-  pub bad_from : (piece : List ℕ) (bad : BadBlock) (after : Reader) → Follows state start 0 stream intake → Fails intake.channel piece bad after → EndsBad (told_by (stream ++ piece)) (Bad (refusal_of bad) ∷ [])
-  bad_from piece bad after follows fails =
+  pub bad_from : (piece : List ℕ) (bad : BadBlock) (after : Reader) → Follows state start 0 stream intake → length piece ≤ wanted intake.channel → Fails intake.channel piece bad after → EndsBad (stream ++ piece) (refusal_of bad)
+  bad_from piece bad after follows fits fails =
       let n = fails.used in
       let comes : to_come intake.channel piece ≡ Bad (refusal_of bad) ∷ [] = rw (take-append-drop n piece) at (fails.comes (drop n piece)) in
-      record { earlier = follows.told; split = follows.carried piece ∙ ap (λ rest. follows.told ++ rest) comes }
+      let here : to_come intake.channel (take n piece) ≡ Bad (refusal_of bad) ∷ [] = rw (append-nil (take n piece)) at (fails.comes []) in
+      let all : length piece ≤ n = elim (cases_lt n (length piece)) [
+        | inl short ↦ absurd (subst IsUnfinished here (to_come-early intake.channel (take n piece) (omega (arith, length-take-le n piece fails.fits))))
+        | inr whole ↦ whole
+      ] in
+      let moved = fails.taken in
+      let last = fails.last in
+      let within = fails.fits in
+      record {
+        earlier = follows.told;
+        unfinished = follows.unfinished refl;
+        split = follows.carried piece ∙ ap (λ rest. follows.told ++ rest) comes;
+        last = omega (arith, length-append stream piece, follows.taken);
+      }
 
   came_of : (piece : List ℕ) (step : Step) (after : Reader) → Advances intake.channel piece step after → step.used ≡ length piece → to_come intake.channel piece ≡ event_arrivals step.event ++ to_come after []
   came_of piece step after advances all =

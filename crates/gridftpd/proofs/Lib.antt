@@ -3,3 +3,4 @@ pub mod EndLemmas
 pub mod FollowLemmas
 pub mod OriginLemmas
 pub mod StatusLemmas
+pub mod CertainLemmas

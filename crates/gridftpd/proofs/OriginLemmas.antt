@@ -16,7 +16,7 @@ use Rattle.gft_eblock.proofs.EndingLemmas.{arrivals-ended}
 use Rattle.gridftpd.specs.Cause.{told_by}
 use Rattle.gridftpd.specs.Drain.{IsTaken, IsStored, IsTruthful, IsHonest, IsFile}
 
-HasEnded-eods : (list : List Arrival) → 0 < eods list → HasEnded list
+pub HasEnded-eods : (list : List Arrival) → 0 < eods list → HasEnded list
 HasEnded-eods [] some = absurd (omega arith)
 HasEnded-eods (At offset value ∷ list) some = HasEnded-eods list some
 HasEnded-eods (Eof total ∷ list) some = HasEnded-eods list some

@@ -1,13 +1,14 @@
 -- What each outcome says of the bytes that were taken of the input, and of what is left of it.
-use Rattle.std.specs.Prelude.{◌≡◌, ◌≢◌, ℕ, ◌<◌, ◌⊎◌, ◌↔◌, List, [], ◌∷◌, ◌++◌, length, Option, None, Some, IsSome}
+use Rattle.std.specs.Prelude.{◌≡◌, ◌≢◌, ℕ, ◌+◌, ◌<◌, ◌⊎◌, ◌↔◌, List, [], ◌∷◌, ◌++◌, length, Option, None, Some, IsSome}
 use Rattle.std.specs.Io.KnownBytes.{Consumes, IsAtEnd}
-use Rattle.gft_base.specs.Arrival.{Arrival, Eof, Eod, Bad, Arrives, totals, eods}
+use Rattle.gft_base.specs.Arrival.{Arrival, Refusal, Eof, Eod, Bad, Arrives, totals, eods}
 use Rattle.gft_base.specs.Done.{IsDone, first_of}
 use Rattle.gft_range.specs.declared.range.Range.{Range}
 use Rattle.gft_range.specs.Range.{InRange, HasOffset}
 use Rattle.gft_eblock.specs.declared.channel.TheConstants.{MOST_BYTES}
 use Rattle.gft_eblock.specs.Arrivals.{arrivals, data_at, IsUnfinished}
 use Rattle.gft_eblock.specs.Channel.{refusal_of}
+use Rattle.gft_keep.specs.declared.keep.TheConstants.{MOST_RANGES}
 use Rattle.gft_keep.specs.Store.{IsFull, block_of}
 use Rattle.gridftpd.specs.declared.outcome.Outcome.{Outcome}
 use Rattle.gridftpd.specs.declared.outcome.Outcome.TheVariants as outcome
@@ -55,20 +56,22 @@ pub record NeedsMoreRanges (list : List Arrival) : Type 0 where
   pub offsets : (x : ℕ) → HasOffset ranges x ↔ Arrives earlier x
   pub full : IsFull ranges (block_of offset bytes)
 
--- a bad header ends the arrivals
-pub record EndsBad (list last : List Arrival) : Type 0 where
+-- a bad header ends the arrivals, and its 17th byte is the last that was taken
+pub record EndsBad (stream : List ℕ) (refused : Refusal) : Type 0 where
   pub earlier : List Arrival
-  pub split : list ≡ earlier ++ last
+  pub unfinished : IsUnfinished earlier
+  pub split : told_by stream ≡ earlier ++ Bad refused ∷ []
+  pub last : length stream ≡ refused.place + 17
 
 -- what an outcome says of the bytes that were taken, and of those that are left; a fault and want of memory say nothing of them
 abbrev pub IsCause : Outcome → List ℕ → Option (List ℕ) → Type 0
 IsCause outcome.Complete stream left = (end : ℕ) × IsDone (told_by stream) end
 IsCause (outcome.Lost taken) stream left = IsLost stream left taken
 IsCause (outcome.Hole total number missing) stream left = HasHole stream left total number missing
-IsCause (outcome.BadBlock bad) stream left = EndsBad (told_by stream) (Bad (refusal_of bad) ∷ [])
+IsCause (outcome.BadBlock bad) stream left = EndsBad stream (refusal_of bad)
 IsCause (outcome.OtherTotal total) stream left = HasOtherTotal (told_by stream) total
 IsCause outcome.TooLong stream left = length stream ≡ MOST_BYTES
-IsCause (outcome.RangesFull kept) stream left = NeedsMoreRanges (told_by stream)
+IsCause (outcome.RangesFull kept) stream left = (kept ≡ MOST_RANGES) × NeedsMoreRanges (told_by stream)
 IsCause outcome.ReadFailed stream left = Unit {0}
 IsCause outcome.DriveFailed stream left = Unit {0}
 IsCause outcome.OutOfMemory stream left = Unit {0}

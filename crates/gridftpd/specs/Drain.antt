@@ -2,13 +2,14 @@
 use Rattle.std.specs.Prelude.{◌≡◌, ℕ, ◌<◌, ◌⊎◌, List, [], ◌∷◌, length, take, slice_get, Option, Some}
 use Rattle.std.specs.Io.KnownBytes.{Consumes, Appends}
 use Rattle.gft_base.specs.Causes.{Rose}
-use Rattle.gft_base.specs.Arrival.{Arrival, At, Eof, Eod, Bad, Arrives, eods}
+use Rattle.gft_base.specs.Arrival.{Arrival, At, Eof, Eod, Bad, Arrives, totals, eods}
 use Rattle.gft_base.specs.Done.{IsDone}
 use Rattle.gft_base.specs.Kept.{HasKept}
 use Rattle.gft_drive.specs.Drive.{DriveState, Reads}
 use Rattle.gft_drive.specs.declared.drive.Part.TheVariants.{Bytes}
-use Rattle.gft_eblock.specs.Arrivals.{IsUnfinished}
-use Rattle.gridftpd.specs.Cause.{told_by}
+use Rattle.gft_eblock.specs.declared.channel.TheConstants.{MOST_BYTES}
+use Rattle.gft_eblock.specs.Arrivals.{IsUnfinished, HasEnded}
+use Rattle.gridftpd.specs.Cause.{told_by, NeedsMoreRanges}
 use Rattle.gridftpd.specs.Line.{text_of, out_of_memory_text}
 use Rattle.gridftpd.specs.Status.{status_of}
 use Rattle.gridftpd.specs.declared.outcome.Outcome.{Outcome}
@@ -61,3 +62,10 @@ IsTruthful source (Bad refusal ∷ list) = IsTruthful source list
 pub record IsHonest (source : List ℕ) (list : List Arrival) : Type 0 where
   pub truthful : IsTruthful source list
   pub whole : 0 < eods list → (x : ℕ) → x < length source → Arrives list x
+
+-- an input that is done up to its EOD, which comes within 2^58 bytes; its one total is 1, and its pieces need no more ranges than may be kept
+pub record IsGood (bytes : List ℕ) (end : ℕ) : Type 0 where
+  pub done : IsDone (told_by bytes) end
+  pub soon : (n : ℕ) × (n < MOST_BYTES) × HasEnded (told_by (take n bytes))
+  pub one_total : totals (told_by bytes) ≡ 1 ∷ []
+  pub few_ranges : ¬ NeedsMoreRanges (told_by bytes)

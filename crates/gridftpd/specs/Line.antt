@@ -1,6 +1,7 @@
 -- The line that `gridftpd drain` prints.
 use Rattle.std.specs.Prelude.{ℕ, List, ◌++◌, codes, Option, None, Some}
 use Rattle.std.specs.Fmt.{decimal}
+use Rattle.gft_eblock.specs.declared.bad_block.BadBlock.{BadBlock}
 use Rattle.gft_range.specs.declared.range.Range.{Range}
 use Rattle.gridftpd.specs.declared.outcome.Outcome.{Outcome}
 use Rattle.gridftpd.specs.declared.outcome.Outcome.TheVariants as outcome
@@ -26,8 +27,18 @@ unfoldable pub hole_text : Option ℕ → ℕ → Option Range → List ℕ
 hole_text total eods missing =
     codes "426 Hole: total " ++ (number_text total ++ (codes ", EODs " ++ (decimal eods ++ (codes ", first missing " ++ (range_text missing ++ codes ".\n")))))
 
-unfoldable pub not_built_text : List ℕ
-not_built_text = codes "426 Not built: this input.\n"
+unfoldable pub bad_block_text : BadBlock → List ℕ
+bad_block_text bad =
+    codes "426 Bad block at " ++ (decimal bad.place ++ (codes ": flags " ++ (decimal bad.flags ++ (codes ", count " ++ (decimal bad.count ++ (codes ", offset " ++ (decimal bad.offset ++ codes ".\n")))))))
+
+unfoldable pub other_total_text : ℕ → List ℕ
+other_total_text total = codes "426 Not built: total " ++ (decimal total ++ codes ".\n")
+
+unfoldable pub too_long_text : List ℕ
+too_long_text = codes "426 Stream too long: lane 0.\n"
+
+unfoldable pub ranges_full_text : ℕ → List ℕ
+ranges_full_text kept = codes "452 Too many ranges: " ++ (decimal kept ++ codes ".\n")
 
 unfoldable pub read_failed_text : List ℕ
 read_failed_text = codes "451 Read failed.\n"
@@ -42,10 +53,10 @@ abbrev pub text_of : Outcome → List ℕ
 text_of outcome.Complete = complete_text
 text_of (outcome.Lost taken) = lost_text taken
 text_of (outcome.Hole total eods missing) = hole_text total eods missing
-text_of (outcome.BadBlock bad) = not_built_text
-text_of (outcome.OtherTotal total) = not_built_text
-text_of outcome.TooLong = not_built_text
-text_of (outcome.RangesFull kept) = not_built_text
+text_of (outcome.BadBlock bad) = bad_block_text bad
+text_of (outcome.OtherTotal total) = other_total_text total
+text_of outcome.TooLong = too_long_text
+text_of (outcome.RangesFull kept) = ranges_full_text kept
 text_of outcome.ReadFailed = read_failed_text
 text_of outcome.DriveFailed = drive_failed_text
 text_of outcome.OutOfMemory = out_of_memory_text

@@ -5,14 +5,14 @@ ghost use Rattle.gft_drive.specs.Drive.{Goes, Reads};
 ghost use Rattle.gft_drive.specs.declared.drive.Part.TheVariants.{Bytes};
 ghost use Rattle.gridftpd.specs.Words.{AreDrainWords};
 ghost use Rattle.gridftpd.specs.Cause.{IsCause, told_by};
-ghost use Rattle.gridftpd.specs.Drain.{IsTaken, IsStored, IsTold, IsPut, IsRefusal, IsHonest, IsFile};
+ghost use Rattle.gridftpd.specs.Drain.{IsTaken, IsStored, IsTold, IsPut, IsRefusal, IsHonest, IsFile, IsGood};
 ghost use Rattle.gridftpd.specs.Line.{usage_text, complete_text, text_of, read_failed_text, drive_failed_text, out_of_memory_text};
 ghost use Rattle.gridftpd.specs.declared.outcome.Outcome.{Outcome};
 
 use crate::intake::Intake;
 use crate::line::{
-    complete_line, drive_failed_line, hole_line, lost_line, not_built_line, out_of_memory_line,
-    read_failed_line, usage_line,
+    bad_block_line, complete_line, drive_failed_line, hole_line, lost_line, other_total_line,
+    out_of_memory_line, ranges_full_line, read_failed_line, too_long_line, usage_line,
 };
 use crate::outcome::Outcome;
 use crate::status::Status;
@@ -31,7 +31,7 @@ const READ_LEN: usize = 65_536;
 /// | Status | Line |
 /// |---|---|
 /// | 0 | `226 Transfer complete.`: the total is announced, its EODs came, and the data covers the file |
-/// | 1 | a 426 line: the input was lost, has a hole or isn't built |
+/// | 1 | a 426 or 452 line: the input was lost, has a hole, a bad block, another total than 1, too many bytes or too many ranges |
 /// | 2 | `usage: gridftpd drain NAME`: other words |
 /// | 3 | `451 Read failed.`: a read of the input failed |
 /// | 4 | a part of the line: a put failed |
@@ -67,6 +67,11 @@ pub fn drain<I: Source, W: Sink, D: Drive + Drop, O: Origin>(
     // Other words touch nothing but the line; else the drive comes back.
     ensures other_words { ¬ AreDrainWords words.now → ((result.0 ≡ 2) ⊎ (result.0 ≡ 4)) × (result.1 ≡ None) × (input.new ≡ input.old) }
     ensures back { AreDrainWords words.now → IsSomeAnd result.1 (λ back. Goes (D.state drive) (D.state back)) }
+
+    // A good input is stored where no fault was counted, unless memory was refused.
+    ensures certain { (bytes : List ℕ) (end : ℕ) → AreDrainWords words.now → I.left input.old ≡ Some bytes → IsGood bytes end
+        → ¬ Rose (I.faults input.old) (I.faults input.new) → ¬ Rose (W.faults out.old) (W.faults out.new)
+        → ¬ IsSomeAnd result.1 (λ back. Rose (D.state drive).faults (D.state back).faults) → (result.0 ≡ 0) ⊎ (result.0 ≡ 6) }
 
     // From an honest sender of a named source, status 0 comes only with the equal file.
     ensures equal { (source bytes : List ℕ) → O.source (D.state drive).label ≡ Some source → I.left input.old ≡ Some bytes → IsHonest source (told_by bytes)
@@ -115,10 +120,10 @@ pub(crate) fn tell<W: Sink>(alloc: Global, out: &mut W, outcome: &Outcome) -> St
             eods,
             missing,
         } => put_made(out, hole_line(alloc, total, eods, missing)),
-        Outcome::BadBlock(_)
-        | Outcome::OtherTotal { .. }
-        | Outcome::TooLong
-        | Outcome::RangesFull { .. } => put(out, not_built_line(), Status::Refused),
+        Outcome::BadBlock(bad) => put_made(out, bad_block_line(alloc, &bad)),
+        Outcome::OtherTotal { total } => put_made(out, other_total_line(alloc, total)),
+        Outcome::TooLong => put(out, too_long_line(), Status::Refused),
+        Outcome::RangesFull { kept } => put_made(out, ranges_full_line(alloc, kept)),
         Outcome::ReadFailed => put(out, read_failed_line(), Status::ReadFailed),
         Outcome::DriveFailed => put(out, drive_failed_line(), Status::DriveFailed),
         Outcome::OutOfMemory => put(out, out_of_memory_line(), Status::OutOfMemory),

@@ -1,8 +1,9 @@
 //! The line that `drain` prints. Each text stands here once.
 
 ghost use Rattle.std.specs.Prelude.{◌≡◌, IfOk, Some, string_bytes};
-ghost use Rattle.gridftpd.specs.Line.{usage_text, complete_text, lost_text, hole_text, not_built_text, read_failed_text, drive_failed_text, out_of_memory_text, number_text, range_text};
+ghost use Rattle.gridftpd.specs.Line.{usage_text, complete_text, lost_text, hole_text, bad_block_text, other_total_text, too_long_text, ranges_full_text, read_failed_text, drive_failed_text, out_of_memory_text, number_text, range_text};
 
+use gft_eblock::BadBlock;
 use gft_range::Range;
 use std::alloc::{AllocError, Global};
 use std::fmt;
@@ -21,11 +22,11 @@ pub(crate) fn complete_line() -> &'static [u8]
     b"226 Transfer complete.\n"
 }
 
-#[tactic(auto, unfolding(crate::specs::Line::not_built_text))]
-pub(crate) fn not_built_line() -> &'static [u8]
-    ensures { result.now ≡ not_built_text }
+#[tactic(auto, unfolding(crate::specs::Line::too_long_text))]
+pub(crate) fn too_long_line() -> &'static [u8]
+    ensures { result.now ≡ too_long_text }
 {
-    b"426 Not built: this input.\n"
+    b"426 Stream too long: lane 0.\n"
 }
 
 #[tactic(auto, unfolding(crate::specs::Line::read_failed_text))]
@@ -68,6 +69,33 @@ pub(crate) fn hole_line(
     let total = OrNone(total);
     let missing = GapOrNone(missing);
     format!(in alloc; "426 Hole: total {total}, EODs {eods}, first missing {missing}.\n")
+}
+
+#[tactic(auto, unfolding(crate::specs::Line::bad_block_text))]
+pub(crate) fn bad_block_line(alloc: Global, bad: &BadBlock) -> Result<String, AllocError>
+    ensures { IfOk result (λ line. string_bytes line ≡ bad_block_text bad.now) }
+{
+    let BadBlock {
+        place,
+        flags,
+        count,
+        offset,
+    } = *bad;
+    format!(in alloc; "426 Bad block at {place}: flags {flags}, count {count}, offset {offset}.\n")
+}
+
+#[tactic(auto, unfolding(crate::specs::Line::other_total_text))]
+pub(crate) fn other_total_line(alloc: Global, total: u64) -> Result<String, AllocError>
+    ensures { IfOk result (λ line. string_bytes line ≡ other_total_text total) }
+{
+    format!(in alloc; "426 Not built: total {total}.\n")
+}
+
+#[tactic(auto, unfolding(crate::specs::Line::ranges_full_text))]
+pub(crate) fn ranges_full_line(alloc: Global, kept: u64) -> Result<String, AllocError>
+    ensures { IfOk result (λ line. string_bytes line ≡ ranges_full_text kept) }
+{
+    format!(in alloc; "452 Too many ranges: {kept}.\n")
 }
 
 /// A number, or `none`.

@@ -25,7 +25,7 @@ returns-in-Eod-clause-follows g c start stream follows =
     (c.in-Some.is ∙ ap (λ event. Some event) c.in-Eod.is) refl refl
 
 pub returns-in-Err-clause-caused : goal.returns-in-Err-clause-caused
-returns-in-Err-clause-caused g c start stream left follows = bad_from g.D.Drive.state start stream c.args.self.now c.args.piece.now c.in-Err.bad _ follows c.in-Err.ensures.bad
+returns-in-Err-clause-caused g c start stream left follows = bad_from g.D.Drive.state start stream c.args.self.now c.args.piece.now c.in-Err.bad _ follows c.requires.wanted c.in-Err.ensures.bad
 
 pub returns-then-total-ne1-clause-caused : goal.returns-then-total-ne1-clause-caused
 returns-then-total-ne1-clause-caused g c start stream left follows =
@@ -35,5 +35,8 @@ returns-then-total-ne1-clause-caused g c start stream left follows =
 
 pub returns-in-Err-RangesFull-clause-caused : goal.returns-in-Err-RangesFull-clause-caused
 returns-in-Err-RangesFull-clause-caused g c start stream left follows =
-    ranges_from g.D.Drive.state start stream c.args.self.now c.args.piece.now c.in-Ok.step _ c.in-Piece.offset c.in-Piece.bytes follows c.in-Ok.ensures.ok (c.in-Ok.ensures.wanted c.requires.wanted)
-    (c.in-Some.is ∙ ap (λ event. Some event) c.in-Piece.is) (c.in-Err-RangesFull.ensures.full_only_at_limit c.in-Err-RangesFull.kept (ap (λ error. Err error) c.in-Err-RangesFull.field-0-is)).1
+    let full = c.in-Err-RangesFull.ensures.full_only_at_limit c.in-Err-RangesFull.kept (ap (λ error. Err error) c.in-Err-RangesFull.field-0-is) in (
+      full.0,
+      ranges_from g.D.Drive.state start stream c.args.self.now c.args.piece.now c.in-Ok.step _ c.in-Piece.offset c.in-Piece.bytes follows c.in-Ok.ensures.ok (c.in-Ok.ensures.wanted c.requires.wanted)
+          (c.in-Some.is ∙ ap (λ event. Some event) c.in-Piece.is) full.1,
+    )

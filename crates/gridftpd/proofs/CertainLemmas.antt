@@ -1,0 +1,175 @@
+-- A good input is refused by no line.
+use Rattle.std.proofs.Common.{◌≡◌, ◌≢◌, ℕ, suc, ◌+◌, ◌<◌, ◌≤◌, ◌⊎◌, ◌↔◌, List, [], ◌∷◌, ◌++◌, append_assoc, append-nil, length, take, Option, Some, None, IsSome, refl, sym, ap, ◌∙◌, subst, arith, inl, inr}
+use Rattle.std.specs.Io.KnownBytes.{Consumes, Appends, IsAtEnd}
+use Rattle.std.proofs.lemmas.List.{take-append-le}
+use Rattle.gft_base.specs.Causes.{Rose}
+use Rattle.gft_base.specs.Arrival.{Arrival, Refusal, At, Eof, Eod, Bad, Arrives, totals, eods}
+use Rattle.gft_base.specs.Done.{IsDone, first_of}
+use Rattle.gft_range.specs.declared.range.Range.{Range}
+use Rattle.gft_eblock.specs.declared.channel.TheConstants.{MOST_BYTES}
+use Rattle.gft_eblock.specs.Arrivals.{arrivals, data_at, IsUnfinished, HasEnded}
+use Rattle.gft_eblock.proofs.EndingLemmas.{arrivals-ended, arrivals-grow, unfinished_not_ended}
+use Rattle.gridftpd.specs.declared.outcome.Outcome.{Outcome}
+use Rattle.gridftpd.specs.declared.outcome.Outcome.TheVariants as outcome
+use Rattle.gridftpd.specs.declared.status.Status.{Status}
+use Rattle.gridftpd.specs.declared.status.Status.TheVariants as status
+use Rattle.gridftpd.specs.Status.{number_of, status_of}
+use Rattle.gridftpd.specs.Cause.{told_by, IsCause, IsLost, HasHole, IsFirstMissing, HasOtherTotal, NeedsMoreRanges, EndsBad}
+use Rattle.gridftpd.specs.Drain.{IsTaken, IsTold, IsGood}
+use Rattle.gridftpd.proofs.ArrivalLemmas.{eods-append, totals-append}
+use Rattle.gridftpd.proofs.EndLemmas.{no_arrivals}
+use Rattle.gridftpd.proofs.OriginLemmas.{HasEnded-eods, told_of_all}
+
+eods-unfinished : (list : List Arrival) → IsUnfinished list → eods list ≡ 0
+eods-unfinished [] none = refl
+eods-unfinished (At offset value ∷ list) none = eods-unfinished list none
+eods-unfinished (Eof total ∷ list) none = eods-unfinished list none
+eods-unfinished (Eod ∷ list) none = absurd none
+eods-unfinished (Bad refused ∷ list) none = absurd none
+
+HasEnded-bad : (list : List Arrival) (refused : Refusal) → HasEnded (list ++ Bad refused ∷ [])
+HasEnded-bad [] refused = tt
+HasEnded-bad (At offset value ∷ list) refused = HasEnded-bad list refused
+HasEnded-bad (Eof total ∷ list) refused = HasEnded-bad list refused
+HasEnded-bad (Eod ∷ list) refused = tt
+HasEnded-bad (Bad other ∷ list) refused = tt
+
+-- a list that is one total alone has no other
+one_alone : (front : List ℕ) (total : ℕ) (behind : List ℕ) → front ++ total ∷ behind ≡ 1 ∷ [] → (total ≢ 1) ⊎ (front ≢ []) → ⊥
+one_alone [] total behind is other = elim other [ inl apart ↦ apart (cc) | inr some ↦ some refl ]
+one_alone (n ∷ []) total behind is other = cc
+one_alone (n ∷ m ∷ front) total behind is other = cc
+
+module _ (bytes stream rest : List ℕ) (end : ℕ) (all : bytes ≡ stream ++ rest) (good : IsGood bytes end) where
+  some_eod : 0 < eods (told_by bytes)
+  some_eod = let bounds = good.done.in_bounds in omega (arith, good.done.met, bounds.0)
+
+  grown : (more : List Arrival) × (told_by bytes ≡ told_by stream ++ more)
+  grown = let more = arrivals-grow 0 stream rest in (more.0, ap (arrivals 0) all ∙ more.1)
+
+  same_told : HasEnded (told_by stream) → told_by bytes ≡ told_by stream
+  same_told ended = ap (arrivals 0) all ∙ arrivals-ended 0 stream rest ended
+
+  not_lost : (taken : ℕ) → IsLost stream (Some rest) taken → ⊥
+  not_lost taken lost =
+      let nothing : rest ≡ [] = lost.at_end in
+      let same : told_by bytes ≡ told_by stream = ap (arrivals 0) (all ∙ ap (λ tail. stream ++ tail) nothing ∙ append-nil stream) in
+      omega (arith, some_eod, ap eods same, eods-unfinished (told_by stream) lost.unfinished)
+
+  not_missing : (list : List Arrival) (missing : Option Range) → IsDone list end → IsFirstMissing list missing → IsSome missing → ⊥
+  not_missing list None done first there = cc
+  not_missing list (Some gap) done first there =
+      let full : gap.start < gap.end = first.0 in
+      let below = (done.whole gap.end).0 first.3 in
+      first.2 gap.start (omega arith, full) ((done.whole gap.start).1 (omega arith))
+
+  not_a_hole : (total : Option ℕ) (number : ℕ) (missing : Option Range) → HasHole stream (Some rest) total number missing → ⊥
+  not_a_hole total number missing hole =
+      elim hole.ended [
+        | inl none ↦
+            let same : bytes ≡ [] = all ∙ ap (λ front. front ++ rest) none.0 ∙ none.1 in
+            let nothing : told_by bytes ≡ [] = ap (arrivals 0) same ∙ no_arrivals in
+            omega (arith, some_eod, ap eods nothing)
+        | inr one ↦
+            let same = same_told (HasEnded-eods (told_by stream) (omega (arith, one))) in
+            let done = subst (λ (list : List Arrival). IsDone list end) same good.done in
+            elim hole.why [ inl untold ↦ let told = sym untold ∙ hole.announced ∙ done.announced in cc | inr there ↦ not_missing (told_by stream) missing done hole.first_missing there ]
+      ]
+
+  not_bad : (refused : Refusal) → EndsBad stream refused → ⊥
+  not_bad refused bad =
+      let ended : HasEnded (told_by stream) = subst HasEnded (sym bad.split) (HasEnded-bad bad.earlier refused) in
+      let same = same_told ended in
+      omega (arith, some_eod, ap eods same, ap eods bad.split, eods-append bad.earlier (Bad refused ∷ []), eods-unfinished bad.earlier bad.unfinished)
+
+  not_another_total : (total : ℕ) → HasOtherTotal (told_by stream) total → ⊥
+  not_another_total total other =
+      let more = grown in
+      let split : told_by bytes ≡ other.earlier ++ (Eof total ∷ (other.later ++ more.0)) = more.1 ∙ ap (λ list. list ++ more.0) other.split ∙ append_assoc other.earlier (Eof total ∷ other.later) more.0 in
+      one_alone (totals other.earlier) total (totals (other.later ++ more.0)) (sym (totals-append other.earlier (Eof total ∷ (other.later ++ more.0))) ∙ ap totals (sym split) ∙ good.one_total) other.other
+
+  not_too_long : ((n : ℕ) → n < length stream → IsUnfinished (told_by (take n stream))) → length stream ≡ MOST_BYTES → ⊥
+  not_too_long in_time long =
+      let n = good.soon.0 in
+      let lt : n < length stream = omega (arith, good.soon.1) in
+      let same : take n bytes ≡ take n stream = ap (take n) all ∙ take-append-le n stream rest (omega arith) in
+      unfinished_not_ended (told_by (take n stream)) (in_time n lt) (subst (λ (list : List ℕ). HasEnded (told_by list)) same good.soon.2)
+
+  not_full : NeedsMoreRanges (told_by stream) → ⊥
+  not_full needs =
+      let more = grown in
+      good.few_ranges (record {
+        earlier = needs.earlier;
+        offset = needs.offset;
+        bytes = needs.bytes;
+        later = needs.later ++ more.0;
+        split = more.1 ∙ ap (λ list. list ++ more.0) needs.split ∙ append_assoc needs.earlier (data_at needs.offset needs.bytes ++ needs.later) more.0
+            ∙ ap (λ list. needs.earlier ++ list) (append_assoc (data_at needs.offset needs.bytes) needs.later more.0);
+        ranges = needs.ranges;
+        offsets = needs.offsets;
+        full = needs.full;
+      })
+
+  no_refusal : (ending : Outcome) → status.Refused ≡ status_of ending → IsCause ending stream (Some rest) → ((n : ℕ) → n < length stream → IsUnfinished (told_by (take n stream))) → ⊥
+  no_refusal outcome.Complete is cause in_time = cc
+  no_refusal (outcome.Lost taken) is cause in_time = not_lost taken cause
+  no_refusal (outcome.Hole total number missing) is cause in_time = not_a_hole total number missing cause
+  no_refusal (outcome.BadBlock bad) is cause in_time = not_bad _ cause
+  no_refusal (outcome.OtherTotal total) is cause in_time = not_another_total total cause
+  no_refusal outcome.TooLong is cause in_time = not_too_long in_time cause
+  no_refusal (outcome.RangesFull kept) is cause in_time = not_full cause.1
+  no_refusal outcome.ReadFailed is cause in_time = cc
+  no_refusal outcome.DriveFailed is cause in_time = cc
+  no_refusal outcome.OutOfMemory is cause in_time = cc
+
+pub refused_never : (bytes stream : List ℕ) (before after : Option (List ℕ)) (end : ℕ) (ending : Outcome) → before ≡ Some bytes → IsGood bytes end → IsTaken before after stream → IsCause ending stream after → status.Refused ≡ status_of ending → ⊥
+refused_never bytes stream None after end ending is good taken cause refused = cc
+refused_never bytes stream (Some known) None end ending is good taken cause refused = taken.consumed
+refused_never bytes stream (Some known) (Some rest) end ending is good taken cause refused = no_refusal bytes stream rest end (let same : known ≡ bytes = cc in sym same ∙ taken.consumed) good ending refused cause taken.in_time
+
+read_by : (ending : Outcome) → status.ReadFailed ≡ status_of ending → ending ≡ outcome.ReadFailed
+read_by outcome.ReadFailed is = refl
+read_by outcome.Complete is = absurd (cc)
+read_by (outcome.Lost taken) is = absurd (cc)
+read_by (outcome.Hole total number missing) is = absurd (cc)
+read_by (outcome.BadBlock bad) is = absurd (cc)
+read_by (outcome.OtherTotal total) is = absurd (cc)
+read_by outcome.TooLong is = absurd (cc)
+read_by (outcome.RangesFull kept) is = absurd (cc)
+read_by outcome.DriveFailed is = absurd (cc)
+read_by outcome.OutOfMemory is = absurd (cc)
+
+drive_by : (ending : Outcome) → status.DriveFailed ≡ status_of ending → ending ≡ outcome.DriveFailed
+drive_by outcome.DriveFailed is = refl
+drive_by outcome.Complete is = absurd (cc)
+drive_by (outcome.Lost taken) is = absurd (cc)
+drive_by (outcome.Hole total number missing) is = absurd (cc)
+drive_by (outcome.BadBlock bad) is = absurd (cc)
+drive_by (outcome.OtherTotal total) is = absurd (cc)
+drive_by outcome.TooLong is = absurd (cc)
+drive_by (outcome.RangesFull kept) is = absurd (cc)
+drive_by outcome.ReadFailed is = absurd (cc)
+drive_by outcome.OutOfMemory is = absurd (cc)
+
+never_usage : (ending : Outcome) → status.Usage ≡ status_of ending → ⊥
+never_usage outcome.DriveFailed is = cc
+never_usage outcome.Complete is = cc
+never_usage (outcome.Lost taken) is = cc
+never_usage (outcome.Hole total number missing) is = cc
+never_usage (outcome.BadBlock bad) is = cc
+never_usage (outcome.OtherTotal total) is = cc
+never_usage outcome.TooLong is = cc
+never_usage (outcome.RangesFull kept) is = cc
+never_usage outcome.ReadFailed is = cc
+never_usage outcome.OutOfMemory is = cc
+
+-- a good input and no fault leave status 0, and want of memory
+pub certain_of : (ending : Outcome) (own : Status) (written told : Option (List ℕ)) (faults risen : ℕ) (read_rose drive_rose : Type 0) → IsTold ending own written told faults risen → (status.Refused ≡ status_of ending → ⊥)
+    → (ending ≡ outcome.ReadFailed → read_rose) → (ending ≡ outcome.DriveFailed → drive_rose) → ¬ read_rose → ¬ Rose faults risen → ¬ drive_rose → (number_of own ≡ 0) ⊎ (number_of own ≡ 6)
+certain_of ending status.Complete written told faults risen read_rose drive_rose is not_refused read drive no_read no_put no_drive = inl refl
+certain_of ending status.Refused written told faults risen read_rose drive_rose is not_refused read drive no_read no_put no_drive = absurd (not_refused is.0)
+certain_of ending status.Usage written told faults risen read_rose drive_rose is not_refused read drive no_read no_put no_drive = absurd (never_usage ending is.0)
+certain_of ending status.ReadFailed written told faults risen read_rose drive_rose is not_refused read drive no_read no_put no_drive = absurd (no_read (read (read_by ending is.0)))
+certain_of ending status.PutFailed written told faults risen read_rose drive_rose is not_refused read drive no_read no_put no_drive = absurd (no_put is)
+certain_of ending status.DriveFailed written told faults risen read_rose drive_rose is not_refused read drive no_read no_put no_drive = absurd (no_drive (drive (drive_by ending is.0)))
+certain_of ending status.OutOfMemory written told faults risen read_rose drive_rose is not_refused read drive no_read no_put no_drive = inr refl
