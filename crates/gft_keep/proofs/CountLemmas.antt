@@ -1,5 +1,5 @@
 -- How many offsets a normal list has.
-use Rattle.std.proofs.Common.{◌≡◌, ℕ, ◌+◌, ◌-◌, ◌<◌, ◌≤◌, List, [], ◌∷◌, refl, sym, ap, subst, arith, inl, inr}
+use Rattle.std.proofs.Common.{◌≡◌, ℕ, ◌+◌, ◌-◌, ◌<◌, ◌≤◌, List, [], ◌∷◌, refl, ap, arith, inl, inr}
 use Rattle.gft_range.specs.declared.range.Range.{Range}
 use Rattle.gft_range.specs.Range.{InRange, HasOffset}
 use Rattle.gft_range.specs.Normal.{IsNormal, BeginsAbove}

@@ -1,5 +1,5 @@
 -- How a file changes while the missing parts of a block are written.
-use Rattle.std.proofs.Common.{◌≡◌, ℕ, ◌+◌, ◌-◌, ◌<◌, ◌≤◌, ◌⊎◌, ◌↔◌, List, [], ◌∷◌, length, take, drop, get_or, refl, sym, ap, ◌∙◌, subst, arith, inl, inr, length-drop, Result, Ok, Err, OnOk}
+use Rattle.std.proofs.Common.{◌≡◌, ℕ, ◌+◌, ◌-◌, ◌<◌, ◌≤◌, ◌⊎◌, ◌↔◌, List, [], ◌∷◌, length, take, drop, refl, sym, ap, ◌∙◌, subst, arith, inl, inr, length-drop, Result, Ok, Err, OnOk}
 use Rattle.std.specs.Prelude.{slice_index}
 use Rattle.std.proofs.lemmas.Bool.{cases_lt}
 use Rattle.std.proofs.lemmas.List.{length-take-le, get_or-take, get_or-drop}
@@ -62,7 +62,7 @@ writing_more set block bytes left q rest part are first sized is old now new wri
     let P : (ℕ → List Range → Type 0) = λ x rs. HasOffset rs x in
     let elsewhere : (x : ℕ) → (x < q.start) ⊎ (q.end ≤ x) → slice_index new x ≡ slice_index now x = λ x apart. elim apart [ inl below ↦ wrote.before x below | inr past ↦ wrote.after x (omega arith) ] in
     let outside : (k : ℕ) → k < length bytes → ¬ HasOffset set (block.start + k) → (block.start + k < q.start) ⊎ (q.end ≤ block.start + k)
-        → HasOffset rest (block.start + k) ⊎ ((slice_index new (block.start + k) ≡ slice_index bytes k) × (block.start + k < length new)) =
+    → HasOffset rest (block.start + k) ⊎ ((slice_index new (block.start + k) ≡ slice_index bytes k) × (block.start + k < length new)) =
     λ k lt out apart. let x = block.start + k in
     elim (writing.added k lt out) [
       | inl left ↦ elim (subst (P x) first left) [ inl here ↦ absurd (elim apart [ inl below ↦ omega arith | inr past ↦ omega arith ]) | inr later ↦ inl later ]
@@ -142,11 +142,14 @@ length-from_exact set file len holds exact =
 -- a cut to the length up to which all is kept leaves so many bytes
 pub cut_finishes : {T E : Type 0} (result : Result T E) (set : List Range) (len : ℕ) (old new : DriveState) → Holds set old → ((x : ℕ) → HasOffset set x ↔ (x < len)) → OnOk result (Reads Bytes (CutTo len) old new) → OnOk result (Reads Bytes (Finishes len) old new)
 cut_finishes (Ok done) set len old new holds exact cut = λ from told.
-    let there = cut from told in
-    (there.0, there.1, record {
-      changed = record { left = there.2.changed; size = ap length there.2.changed ∙ length-take-le len from.bytes (length-from_exact set from.bytes len (holds from told) exact) };
-      kept = there.2.kept;
-    })
+    let there = cut from told in (
+      there.0,
+      there.1,
+      record {
+        changed = record { left = there.2.changed; size = ap length there.2.changed ∙ length-take-le len from.bytes (length-from_exact set from.bytes len (holds from told) exact) };
+        kept = there.2.kept;
+      },
+    )
 cut_finishes (Err failed) set len old new holds exact cut = tt
 
 pub Holds-stored : (set : List Range) (block : Range) (bytes : List ℕ) (old new : DriveState) (union : List Range) → block.start + length bytes ≡ block.end → ((x : ℕ) → HasOffset set x ⊎ ¬ HasOffset set x)

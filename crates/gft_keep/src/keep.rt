@@ -102,6 +102,7 @@ impl<D: Drive + Drop> Keep<D> {
         ensures emptied { OnOk result ((self.new.set.ranges ≡ []) × Reads Bytes (CutTo 0) (D.state self.old.drive) (D.state self.new.drive)) }
         ensures broken { IsTrue self.new.broken ↔ IsErr result }
         ensures failed { OnErr result (self.new.set ≡ self.old.set) }
+        ensures limit { length self.old.set.ranges ≤ MOST_RANGES → length self.new.set.ranges ≤ MOST_RANGES }
         ensures goes { Goes (D.state self.old.drive) (D.state self.new.drive) }
         ensures cause { HasCause (D.state self.old.drive).faults (D.state self.new.drive).faults result }
     {
@@ -134,6 +135,7 @@ impl<D: Drive + Drop> Keep<D> {
         ensures refused_memory { IsErrOf result KeepError.OutOfMemory → self.new ≡ self.old }
         ensures failed { IsErrOf result KeepError.Failed → (self.new.set.ranges ≡ self.old.set.ranges) × Rose (D.state self.old.drive).faults (D.state self.new.drive).faults }
         ensures broken { IsTrue self.new.broken ↔ IsErrOf result KeepError.Failed }
+        ensures limit { length self.old.set.ranges ≤ MOST_RANGES → length self.new.set.ranges ≤ MOST_RANGES }
         ensures goes { Goes (D.state self.old.drive) (D.state self.new.drive) }
         ensures faults { (D.state self.old.drive).faults ≤ (D.state self.new.drive).faults }
     {

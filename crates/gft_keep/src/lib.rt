@@ -4,6 +4,8 @@
 
 mod error;
 mod keep;
+#[cfg(test)]
+mod tests;
 mod writing;
 
 pub use error::{AttachError, KeepError};

@@ -26,14 +26,12 @@ const ALL: usize = usize::MAX;
 
 const COMPLETE: &str = "226 Transfer complete.\n";
 
-const NOT_BUILT: &str = "426 Not built: this input.\n";
-
 const USAGE: &str = "usage: gridftpd drain NAME\n";
 
 const LONG: &str =
     "nnnnnnnnnnnnnnnnnnnnnnnnnnnnnnnnnnnnnnnnnnnnnnnnnnnnnnnnnnnnnnnnnnnnnnnnnnnnnnnnnnnnnnnnnnnnnnnnnnnnnnnnnnnnnnnnnnnnnnnnnnnnnnnnnnnnnnnnnnnnnnnnnnnnnnnnnnnnnnnnnnnnnnnnnnnnnnnnnnnnnnnnnnnnnnnnnnnnnnnnn";
 
-static RECORDINGS: [Row; 11] = [
+static RECORDINGS: [Row; 12] = [
     Row {
         words: GOOD,
         blocks: &[(0, 0, "hello"), (64, 1, ""), (12, 0, "")],
@@ -103,7 +101,7 @@ static RECORDINGS: [Row; 11] = [
         blocks: &[(64, 2, "")],
         there: ALL,
         status: 1,
-        line: NOT_BUILT,
+        line: "426 Not built: total 2.\n",
         file: None,
     },
     Row {
@@ -111,7 +109,7 @@ static RECORDINGS: [Row; 11] = [
         blocks: &[(64, 1, ""), (64, 1, "")],
         there: ALL,
         status: 1,
-        line: NOT_BUILT,
+        line: "426 Not built: total 1.\n",
         file: None,
     },
     Row {
@@ -119,7 +117,15 @@ static RECORDINGS: [Row; 11] = [
         blocks: &[(16, 0, "a")],
         there: ALL,
         status: 1,
-        line: NOT_BUILT,
+        line: "426 Bad block at 0: flags 16, count 1, offset 0.\n",
+        file: None,
+    },
+    Row {
+        words: GOOD,
+        blocks: &[(0, 0, "hello"), (64, 1, "x")],
+        there: ALL,
+        status: 1,
+        line: "426 Bad block at 22: flags 64, count 1, offset 1.\n",
         file: None,
     },
 ];
@@ -283,6 +289,37 @@ fn what_follows_the_eod_is_left_unread(rt: HostRuntime) -> Result<(), Fail> {
     );
     assert_eq!(rt; status, 0);
     assert_eq!(rt; input.rest().len(), 22);
+    Ok(())
+}
+
+#[test]
+fn a_kept_byte_is_not_written_again(rt: HostRuntime) -> Result<(), Fail> {
+    let alloc = rt.alloc();
+    let blocks = [(0, 0, "HELLO"), (0, 0, "helloX"), (64, 1, ""), (12, 0, "")];
+    let stream = recording(alloc, &blocks)?;
+    let words = owned(alloc, GOOD)?;
+    let mut input = MemorySource::new(stream, 1_000, Vec::new(alloc));
+    let mut out = MemorySink::new(alloc, 100, Vec::new(alloc))?;
+    let drive = MemoryDrive::new(alloc, b"a.dat", 100, 100, &[])?;
+    let (status, back) = drain::<_, _, _, Unknown>(
+        alloc,
+        words.as_slice(),
+        &mut input,
+        &mut out,
+        drive,
+    );
+    assert_eq!(rt; status, 0);
+    let mut writes = Vec::new(alloc);
+    if let Some(drive) = back {
+        for i in 0..drive.count() {
+            if let Some(call) = drive.call(i) {
+                if call.call == CallKind::Write {
+                    writes.push((call.at, call.len))?;
+                }
+            }
+        }
+    }
+    assert_eq!(rt; writes.as_slice(), [(0, 5), (5, 1)].as_slice());
     Ok(())
 }
 

@@ -1,11 +1,10 @@
-use Rattle.std.proofs.Common.{◌≡◌, ◌+◌, ◌-◌, ◌≤◌, ◌<◌, ℕ, List, length, take, drop, arith, rules, refl, sym, ap, ◌∙◌, subst, length-drop}
+use Rattle.std.proofs.Common.{◌-◌, ◌≤◌, ℕ, List, length, drop, arith, rules, refl, sym, ap, ◌∙◌, subst, length-drop}
 use Rattle.std.proofs.lemmas.List.{length-take-le}
 use Rattle.gft_range.specs.declared.range.Range.{Range}
 use Rattle.gft_range.specs.Set.{IsMissing}
-use Rattle.gft_range.proofs.NormalLemmas.{one_list}
-use Rattle.gft_drive.specs.Write.{Written, Same}
+use Rattle.gft_drive.specs.Write.{Written}
 use Rattle.gft_drive.specs.declared.drive.Part.TheVariants.{Bytes}
-use Rattle.gft_drive.proofs.Steps.{Goes-refl, Goes-then, Reads-same, Reads-then}
+use Rattle.gft_drive.proofs.Steps.{Goes-refl, Goes-then, Reads-then}
 use Rattle.gft_keep.specs.Store.{Stores, offset_count}
 use Rattle.gft_keep.specs.Writing.{Writing}
 use Rattle.gft_keep.proofs.FileLemmas.{left_at_first, left_after, in_block, writing_none, writing_more, stores_all}
@@ -74,9 +73,12 @@ returns-clause-stored g c =
     let kept = c.loop-gap.invariant in
     λ from told.
     let here = kept.writing from told in
-    let there = c.in_ok-sync.ensures.read here.0 here.1 in
-    (there.0, there.1, record {
-      changed = subst (λ (file : List ℕ). Stores set c.args.block c.args.bytes.now from.bytes file) (sym there.2.changed)
-          (stores_all set c.args.block c.args.bytes.now _ (c.in-None.ensures.steps).0 from.bytes here.0.bytes (c.requires.holds from told) here.2.changed);
-      kept = there.2.kept ∙ here.2.kept;
-    })
+    let there = c.in_ok-sync.ensures.read here.0 here.1 in (
+      there.0,
+      there.1,
+      record {
+        changed = subst (λ (file : List ℕ). Stores set c.args.block c.args.bytes.now from.bytes file) (sym there.2.changed)
+            (stores_all set c.args.block c.args.bytes.now _ (c.in-None.ensures.steps).0 from.bytes here.0.bytes (c.requires.holds from told) here.2.changed);
+        kept = there.2.kept ∙ here.2.kept;
+      },
+    )

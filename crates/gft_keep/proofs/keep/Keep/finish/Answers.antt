@@ -1,4 +1,3 @@
-use Rattle.std.proofs.Common.{◌≡◌, length, ap, ◌∙◌}
 use Rattle.gft_keep.proofs.FileLemmas.{cut_finishes}
 use Rattle.gft_keep.proofs.keep.Keep.finish.Goals as goal
 

@@ -1,8 +1,7 @@
-use Rattle.std.proofs.Common.{◌≡◌, ℕ, ◌+◌, ◌<◌, ◌≤◌, ◌⊎◌, List, [], ◌∷◌, length, arith, refl, sym, ap, ◌∙◌, subst}
+use Rattle.std.proofs.Common.{arith, refl, sym, ◌∙◌}
 use Rattle.gft_range.proofs.OffsetLemmas.{HasOffset-or}
-use Rattle.gft_range.proofs.UnionLemmas.{union_of}
 use Rattle.gft_keep.proofs.FullLemmas.{covered_not_full, is_full}
-use Rattle.gft_keep.specs.Store.{IsFull, block_of}
+use Rattle.gft_keep.specs.Store.{block_of}
 use Rattle.gft_keep.proofs.CountLemmas.{nothing_missing}
 use Rattle.gft_keep.proofs.FileLemmas.{Holds-stored}
 use Rattle.gft_keep.proofs.keep.Keep.store.Goals as goal

@@ -69,7 +69,7 @@ returns-in-Err-clause-caused g c =
       kept.stream ++ piece,
       record { consumed = Consumes-append _ _ _ kept.stream piece kept.consumed c.in-Ok.ensures.consumed; in_time = in_time_more g.D.Drive.state start kept.stream piece c.reads.self kept.follows fits },
       c.in-Err.ensures.caused start kept.stream (g.I.Source.left c.read_next.new.input) kept.follows,
-      λ same. absurd (subst (λ (outcome : Outcome). IsTurnsOutcome outcome) same c.in-Err.ensures.which),
+      λ same. absurd {A = IsStored (kept.stream ++ piece) start (g.D.Drive.state c.turn.new.self.keep.drive)} (subst (λ (outcome : Outcome). IsTurnsOutcome outcome) same c.in-Err.ensures.which),
     )
 
 pub reads-smaller : goal.reads-smaller
