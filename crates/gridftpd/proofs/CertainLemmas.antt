@@ -1,10 +1,9 @@
 -- A good input is refused by no line.
-use Rattle.std.proofs.Common.{◌≡◌, ◌≢◌, ℕ, suc, ◌+◌, ◌<◌, ◌≤◌, ◌⊎◌, ◌↔◌, List, [], ◌∷◌, ◌++◌, append_assoc, append-nil, length, take, Option, Some, None, IsSome, refl, sym, ap, ◌∙◌, subst, arith, inl, inr}
-use Rattle.std.specs.Io.KnownBytes.{Consumes, Appends, IsAtEnd}
+use Rattle.std.proofs.Common.{◌≡◌, ◌≢◌, ℕ, ◌<◌, ◌⊎◌, List, [], ◌∷◌, ◌++◌, append_assoc, append-nil, length, take, Option, Some, None, IsSome, refl, sym, ap, ◌∙◌, subst, arith, inl, inr}
 use Rattle.std.proofs.lemmas.List.{take-append-le}
 use Rattle.gft_base.specs.Causes.{Rose}
-use Rattle.gft_base.specs.Arrival.{Arrival, Refusal, At, Eof, Eod, Bad, Arrives, totals, eods}
-use Rattle.gft_base.specs.Done.{IsDone, first_of}
+use Rattle.gft_base.specs.Arrival.{Arrival, Refusal, At, Eof, Eod, Bad, totals, eods}
+use Rattle.gft_base.specs.Done.{IsDone}
 use Rattle.gft_range.specs.declared.range.Range.{Range}
 use Rattle.gft_eblock.specs.declared.channel.TheConstants.{MOST_BYTES}
 use Rattle.gft_eblock.specs.Arrivals.{arrivals, data_at, IsUnfinished, HasEnded}
@@ -18,7 +17,7 @@ use Rattle.gridftpd.specs.Cause.{told_by, IsCause, IsLost, HasHole, IsFirstMissi
 use Rattle.gridftpd.specs.Drain.{IsTaken, IsTold, IsGood}
 use Rattle.gridftpd.proofs.ArrivalLemmas.{eods-append, totals-append}
 use Rattle.gridftpd.proofs.EndLemmas.{no_arrivals}
-use Rattle.gridftpd.proofs.OriginLemmas.{HasEnded-eods, told_of_all}
+use Rattle.gridftpd.proofs.OriginLemmas.{HasEnded-eods}
 
 eods-unfinished : (list : List Arrival) → IsUnfinished list → eods list ≡ 0
 eods-unfinished [] none = refl

@@ -1,16 +1,16 @@
 -- What an intake that ended says of its stream.
-use Rattle.std.proofs.Common.{◌≡◌, ◌≢◌, ℕ, ◌+◌, ◌<◌, ◌≤◌, ◌⊎◌, ◌↔◌, Bool, true, false, cond, List, [], ◌∷◌, ◌++◌, length, length-append, take, drop, Option, Some, None, IsSome, append_assoc, append-nil, refl, sym, ap, ◌∙◌, subst, arith, inl, inr, Bor}
+use Rattle.std.proofs.Common.{◌≡◌, ◌≢◌, ℕ, ◌<◌, ◌≤◌, ◌⊎◌, ◌↔◌, Bool, true, false, cond, List, [], ◌∷◌, ◌++◌, length, length-append, take, drop, Option, Some, None, IsSome, append_assoc, append-nil, refl, sym, ap, ◌∙◌, subst, arith, inl, inr, Bor}
 use Rattle.std.specs.Prelude.{slice_index, is_some, IfNone, IfSome}
 use Rattle.std.specs.Bool.{then_some}
 use Rattle.std.specs.Io.KnownBytes.{Consumes, IsAtEnd}
 use Rattle.std.proofs.lemmas.List.{take_all, get_or-take, take-append-drop, length-take-le}
 use Rattle.std.proofs.lemmas.Bool.{cases_lt}
 use Rattle.gft_base.specs.Causes.{Rose}
-use Rattle.gft_base.specs.Arrival.{Arrival, Eof, Eod, Bad, Arrives, totals, eods}
+use Rattle.gft_base.specs.Arrival.{Arrival, Eof, Bad, Arrives, totals, eods}
 use Rattle.gft_base.specs.Kept.{kept_byte, HasKept}
 use Rattle.gft_base.specs.Done.{IsDone, first_of}
 use Rattle.gft_range.specs.declared.range.Range.{Range}
-use Rattle.gft_range.specs.Range.{InRange, HasOffset}
+use Rattle.gft_range.specs.Range.{HasOffset}
 use Rattle.gft_range.specs.Set.{KeptRanges}
 use Rattle.gft_range.specs.FirstGap.{IsFirstGap, HasNoGap}
 use Rattle.gft_drive.specs.Drive.{DriveState, Reads}

@@ -1,5 +1,5 @@
 -- How an intake goes on along its stream.
-use Rattle.std.proofs.Common.{◌≡◌, ◌≢◌, ℕ, ◌+◌, ◌-◌, ◌<◌, ◌≤◌, ◌⊎◌, ◌↔◌, Bool, true, false, cond, List, [], ◌∷◌, ◌++◌, length, length-append, take, drop, Option, Some, None, append_assoc, append-nil, refl, sym, ap, ◌∙◌, subst, arith, inl, inr, Bor}
+use Rattle.std.proofs.Common.{◌≡◌, ℕ, ◌+◌, ◌-◌, ◌<◌, ◌≤◌, ◌⊎◌, ◌↔◌, true, false, cond, List, [], ◌∷◌, ◌++◌, length, length-append, take, Some, None, append_assoc, append-nil, refl, sym, ap, ◌∙◌, subst, arith, inl, inr, Bor}
 use Rattle.std.specs.Prelude.{slice_index}
 use Rattle.std.proofs.lemmas.List.{take_all, length-take-le, take-append-le}
 use Rattle.std.proofs.Math.Seq.{take-append-add}
@@ -7,7 +7,7 @@ use Rattle.std.proofs.lemmas.Bool.{cases_lt}
 use Rattle.gft_base.specs.Arrival.{Arrival, Eof, Eod, Arrives, totals, eods}
 use Rattle.gft_base.specs.Kept.{kept_byte}
 use Rattle.gft_range.specs.declared.range.Range.{Range}
-use Rattle.gft_range.specs.Range.{InRange, HasOffset}
+use Rattle.gft_range.specs.Range.{HasOffset}
 use Rattle.gft_range.specs.Set.{IsUnion}
 use Rattle.gft_range.proofs.OffsetLemmas.{HasOffset-or}
 use Rattle.gft_drive.specs.Drive.{DriveState, Goes, Reads}
@@ -18,7 +18,7 @@ use Rattle.gft_keep.specs.Store.{Stores, block_of}
 use Rattle.gft_eblock.specs.declared.event.Step.{Step}
 use Rattle.gft_eblock.specs.declared.event.Event.TheVariants as event
 use Rattle.gft_eblock.specs.Arrivals.{arrivals, data_at, IsUnfinished}
-use Rattle.gft_eblock.specs.Channel.{Reader, to_come, wanted}
+use Rattle.gft_eblock.specs.Channel.{to_come, wanted}
 use Rattle.gft_eblock.specs.Feeding.{Advances, event_arrivals}
 use Rattle.gft_eblock.proofs.EndingLemmas.{IsUnfinished-append, IsUnfinished-data_at}
 use Rattle.gft_eblock.proofs.ToComeLemmas.{to_come-early}

@@ -1,11 +1,11 @@
 -- From an honest sender the kept bytes are the source.
-use Rattle.std.proofs.Common.{◌≡◌, ◌≢◌, ℕ, ◌+◌, ◌-◌, ◌<◌, ◌≤◌, ◌⊎◌, ◌↔◌, List, [], ◌∷◌, ◌++◌, length, get_or, Option, Some, None, refl, sym, ap, ◌∙◌, subst, arith, inl, inr, slice_get}
+use Rattle.std.proofs.Common.{◌≡◌, ◌≢◌, ℕ, ◌-◌, ◌<◌, ◌≤◌, List, [], ◌∷◌, length, Option, Some, None, sym, ap, ◌∙◌, subst, arith, inl, inr, slice_get}
 use Rattle.std.specs.Prelude.{slice_index}
 use Rattle.std.specs.Io.KnownBytes.{Consumes}
 use Rattle.std.proofs.lemmas.Bool.{cases_lt, cases_order, eq-eqb, ne_eqb}
 use Rattle.std.proofs.lemmas.List.{same_lists, get_or_default}
 use Rattle.std.proofs.lemmas.Option.{slice_get_within, get_or_from_slice_get}
-use Rattle.gft_base.specs.Arrival.{Arrival, At, Eof, Eod, Bad, Arrives, eods}
+use Rattle.gft_base.specs.Arrival.{Arrival, At, Eof, Eod, Bad, eods}
 use Rattle.gft_base.specs.Done.{IsDone}
 use Rattle.gft_base.specs.Kept.{kept_byte, HasKept}
 use Rattle.gft_drive.specs.Drive.{DriveState, Reads}

@@ -1,7 +1,7 @@
 -- What each outcome says of the bytes that were taken of the input, and of what is left of it.
 use Rattle.std.specs.Prelude.{◌≡◌, ◌≢◌, ℕ, ◌+◌, ◌<◌, ◌⊎◌, ◌↔◌, List, [], ◌∷◌, ◌++◌, length, Option, None, Some, IsSome}
-use Rattle.std.specs.Io.KnownBytes.{Consumes, IsAtEnd}
-use Rattle.gft_base.specs.Arrival.{Arrival, Refusal, Eof, Eod, Bad, Arrives, totals, eods}
+use Rattle.std.specs.Io.KnownBytes.{IsAtEnd}
+use Rattle.gft_base.specs.Arrival.{Arrival, Refusal, Eof, Bad, Arrives, totals, eods}
 use Rattle.gft_base.specs.Done.{IsDone, first_of}
 use Rattle.gft_range.specs.declared.range.Range.{Range}
 use Rattle.gft_range.specs.Range.{InRange, HasOffset}

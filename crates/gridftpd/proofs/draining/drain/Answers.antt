@@ -1,4 +1,4 @@
-use Rattle.std.proofs.Common.{◌≡◌, ◌⊎◌, Some, List, ℕ, refl, sym, ap, ◌∙◌, subst}
+use Rattle.std.proofs.Common.{◌≡◌, ◌⊎◌, ℕ, sym, ◌∙◌, subst}
 use Rattle.gridftpd.proofs.OriginLemmas.{stored_is_source}
 use Rattle.gft_base.specs.Causes.{Rose}
 use Rattle.gridftpd.proofs.CertainLemmas.{certain_of, refused_never}

@@ -1,6 +1,5 @@
-use Rattle.std.proofs.Common.{◌≡◌, ◌≤◌, ℕ, List, [], true, false, arith, refl, sym, ap, ◌∙◌, subst}
-use Rattle.gft_base.specs.Causes.{Rose}
-use Rattle.gft_drive.specs.Drive.{DriveState, Goes, Reads}
+use Rattle.std.proofs.Common.{◌≡◌, sym, ap, subst}
+use Rattle.gft_drive.specs.Drive.{DriveState, Goes}
 use Rattle.gft_drive.proofs.Steps.{Goes-then}
 use Rattle.gft_keep.specs.declared.keep.Keep.{Keep}
 use Rattle.gridftpd.specs.Drain.{IsStored}

@@ -1,7 +1,6 @@
-use Rattle.std.proofs.Common.{◌≡◌, ℕ, ◌<◌, ◌↔◌, ◌⊎◌, List, Option, Some, None, IsSome, Bool, true, false, cond, sym, refl, subst, ap, ◌∙◌, inl, inr}
+use Rattle.std.proofs.Common.{◌≡◌, ℕ, ◌⊎◌, List, Option, IsSome, false, sym, subst, ap, ◌∙◌, inl, inr}
 use Rattle.std.specs.Prelude.{IfSome, IfNone}
 use Rattle.gft_range.specs.declared.range.Range.{Range}
-use Rattle.gft_range.specs.Range.{HasOffset}
 use Rattle.gft_range.specs.FirstGap.{IsFirstGap, HasNoGap}
 use Rattle.gft_range.specs.Set.{KeptRanges}
 use Rattle.gridftpd.specs.Cause.{HasHole}

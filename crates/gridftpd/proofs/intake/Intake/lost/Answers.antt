@@ -1,4 +1,4 @@
-use Rattle.std.proofs.Common.{◌≡◌, ◌<◌, arith, sym, ◌∙◌}
+use Rattle.std.proofs.Common.{arith}
 use Rattle.gridftpd.proofs.EndLemmas.{lost_from, empty_hole}
 use Rattle.gridftpd.proofs.intake.Intake.lost.Goals as goal
 

@@ -1,4 +1,4 @@
-use Rattle.std.proofs.Common.{◌≡◌, ℕ, [], List, refl, sym, subst, arith}
+use Rattle.std.proofs.Common.{ℕ, [], List, refl, sym, subst, arith}
 use Rattle.gft_range.specs.declared.range.Range.{Range}
 use Rattle.gft_range.specs.Range.{HasOffset}
 use Rattle.gft_drive.proofs.Steps.{Goes-refl, Reads-same}

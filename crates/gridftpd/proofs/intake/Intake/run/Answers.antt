@@ -1,7 +1,6 @@
-use Rattle.std.proofs.Common.{◌≡◌, ℕ, ◌-◌, ◌<◌, ◌≤◌, ◌+◌, ◌++◌, List, [], Bool, true, false, cond, take, arith, length, length-append, refl, ap, Err, subst, sym, ◌∙◌, inl, inr}
+use Rattle.std.proofs.Common.{◌≡◌, ◌<◌, ◌≤◌, ◌++◌, [], Bool, cond, take, arith, length, length-append, ap, subst, inl, inr}
 use Rattle.std.proofs.lemmas.List.{length-take-le}
-use Rattle.gft_eblock.specs.declared.channel.TheConstants.{MOST_BYTES}
-use Rattle.gft_eblock.specs.Channel.{IsDone, wanted}
+use Rattle.gft_eblock.specs.Channel.{wanted}
 use Rattle.gridftpd.specs.Follows.{Follows}
 use Rattle.gridftpd.specs.Drain.{IsStored}
 use Rattle.gridftpd.specs.Turn.{IsTurnsOutcome}

@@ -1,4 +1,4 @@
-use Rattle.std.proofs.Common.{◌≡◌, Some, None, Err, ap, sym, ◌∙◌, refl, inl, inr}
+use Rattle.std.proofs.Common.{Some, Err, ap, ◌∙◌, refl, inl, inr}
 use Rattle.gft_eblock.specs.declared.event.Event.TheVariants.{Eof}
 use Rattle.gridftpd.proofs.FollowLemmas.{follows_none, follows_piece, follows_eof, follows_eod}
 use Rattle.gridftpd.proofs.EndLemmas.{is_false, bad_from, total_from, ranges_from}
