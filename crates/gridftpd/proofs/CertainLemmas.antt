@@ -8,12 +8,14 @@ use Rattle.gft_range.specs.declared.range.Range.{Range}
 use Rattle.gft_eblock.specs.declared.channel.TheConstants.{MOST_BYTES}
 use Rattle.gft_eblock.specs.Arrivals.{arrivals, data_at, IsUnfinished, HasEnded}
 use Rattle.gft_eblock.proofs.EndingLemmas.{arrivals-ended, arrivals-grow, unfinished_not_ended}
+use Rattle.gft_eod.specs.declared.error.EodError.{EodError}
+use Rattle.gridftpd.proofs.CountLemmas.{done_is_counted}
 use Rattle.gridftpd.specs.declared.outcome.Outcome.{Outcome}
 use Rattle.gridftpd.specs.declared.outcome.Outcome.TheVariants as outcome
 use Rattle.gridftpd.specs.declared.status.Status.{Status}
 use Rattle.gridftpd.specs.declared.status.Status.TheVariants as status
 use Rattle.gridftpd.specs.Status.{number_of, status_of}
-use Rattle.gridftpd.specs.Cause.{told_by, IsCause, IsLost, HasHole, IsFirstMissing, HasOtherTotal, NeedsMoreRanges, EndsBad}
+use Rattle.gridftpd.specs.Cause.{told_by, IsCause, IsLost, HasHole, IsFirstMissing, IsMiscounted, NeedsMoreRanges, EndsBad}
 use Rattle.gridftpd.specs.Drain.{IsTaken, IsTold, IsGood}
 use Rattle.gridftpd.proofs.ArrivalLemmas.{eods-append, totals-append}
 use Rattle.gridftpd.proofs.EndLemmas.{no_arrivals}
@@ -32,12 +34,6 @@ HasEnded-bad (At offset value ∷ list) refused = HasEnded-bad list refused
 HasEnded-bad (Eof total ∷ list) refused = HasEnded-bad list refused
 HasEnded-bad (Eod ∷ list) refused = tt
 HasEnded-bad (Bad other ∷ list) refused = tt
-
--- a list that is one total alone has no other
-one_alone : (front : List ℕ) (total : ℕ) (behind : List ℕ) → front ++ total ∷ behind ≡ 1 ∷ [] → (total ≢ 1) ⊎ (front ≢ []) → ⊥
-one_alone [] total behind is other = elim other [ inl apart ↦ apart (cc) | inr some ↦ some refl ]
-one_alone (n ∷ []) total behind is other = cc
-one_alone (n ∷ m ∷ front) total behind is other = cc
 
 module _ (bytes stream rest : List ℕ) (end : ℕ) (all : bytes ≡ stream ++ rest) (good : IsGood bytes end) where
   some_eod : 0 < eods (told_by bytes)
@@ -72,7 +68,7 @@ module _ (bytes stream rest : List ℕ) (end : ℕ) (all : bytes ≡ stream ++ r
         | inr one ↦
             let same = same_told (HasEnded-eods (told_by stream) (omega (arith, one))) in
             let done = subst (λ (list : List Arrival). IsDone list end) same good.done in
-            elim hole.why [ inl untold ↦ let told = sym untold ∙ hole.announced ∙ done.announced in cc | inr there ↦ not_missing (told_by stream) missing done hole.first_missing there ]
+            elim hole.why [ inl unmet ↦ unmet (hole.announced ∙ done.announced ∙ ap (λ (n : ℕ). Some n) (sym done.met ∙ sym hole.counted)) | inr there ↦ not_missing (told_by stream) missing done hole.first_missing there ]
       ]
 
   not_bad : (refused : Refusal) → EndsBad stream refused → ⊥
@@ -81,11 +77,10 @@ module _ (bytes stream rest : List ℕ) (end : ℕ) (all : bytes ≡ stream ++ r
       let same = same_told ended in
       omega (arith, some_eod, ap eods same, ap eods bad.split, eods-append bad.earlier (Bad refused ∷ []), eods-unfinished bad.earlier bad.unfinished)
 
-  not_another_total : (total : ℕ) → HasOtherTotal (told_by stream) total → ⊥
-  not_another_total total other =
+  not_miscounted : (error : EodError) → IsMiscounted (told_by stream) error → ⊥
+  not_miscounted error wrong =
       let more = grown in
-      let split : told_by bytes ≡ other.earlier ++ (Eof total ∷ (other.later ++ more.0)) = more.1 ∙ ap (λ list. list ++ more.0) other.split ∙ append_assoc other.earlier (Eof total ∷ other.later) more.0 in
-      one_alone (totals other.earlier) total (totals (other.later ++ more.0)) (sym (totals-append other.earlier (Eof total ∷ (other.later ++ more.0))) ∙ ap totals (sym split) ∙ good.one_total) other.other
+      done_is_counted (told_by stream) more.0 end error (subst (λ (list : List Arrival). IsDone list end) more.1 good.done) wrong
 
   not_too_long : ((n : ℕ) → n < length stream → IsUnfinished (told_by (take n stream))) → length stream ≡ MOST_BYTES → ⊥
   not_too_long in_time long =
@@ -114,7 +109,7 @@ module _ (bytes stream rest : List ℕ) (end : ℕ) (all : bytes ≡ stream ++ r
   no_refusal (outcome.Lost taken) is cause in_time = not_lost taken cause
   no_refusal (outcome.Hole total number missing) is cause in_time = not_a_hole total number missing cause
   no_refusal (outcome.BadBlock bad) is cause in_time = not_bad _ cause
-  no_refusal (outcome.OtherTotal total) is cause in_time = not_another_total total cause
+  no_refusal (outcome.CountRefused error) is cause in_time = not_miscounted error cause
   no_refusal outcome.TooLong is cause in_time = not_too_long in_time cause
   no_refusal (outcome.RangesFull kept) is cause in_time = not_full cause.1
   no_refusal outcome.ReadFailed is cause in_time = cc
@@ -132,7 +127,7 @@ read_by outcome.Complete is = absurd (cc)
 read_by (outcome.Lost taken) is = absurd (cc)
 read_by (outcome.Hole total number missing) is = absurd (cc)
 read_by (outcome.BadBlock bad) is = absurd (cc)
-read_by (outcome.OtherTotal total) is = absurd (cc)
+read_by (outcome.CountRefused error) is = absurd (cc)
 read_by outcome.TooLong is = absurd (cc)
 read_by (outcome.RangesFull kept) is = absurd (cc)
 read_by outcome.DriveFailed is = absurd (cc)
@@ -144,7 +139,7 @@ drive_by outcome.Complete is = absurd (cc)
 drive_by (outcome.Lost taken) is = absurd (cc)
 drive_by (outcome.Hole total number missing) is = absurd (cc)
 drive_by (outcome.BadBlock bad) is = absurd (cc)
-drive_by (outcome.OtherTotal total) is = absurd (cc)
+drive_by (outcome.CountRefused error) is = absurd (cc)
 drive_by outcome.TooLong is = absurd (cc)
 drive_by (outcome.RangesFull kept) is = absurd (cc)
 drive_by outcome.ReadFailed is = absurd (cc)
@@ -156,7 +151,7 @@ never_usage outcome.Complete is = cc
 never_usage (outcome.Lost taken) is = cc
 never_usage (outcome.Hole total number missing) is = cc
 never_usage (outcome.BadBlock bad) is = cc
-never_usage (outcome.OtherTotal total) is = cc
+never_usage (outcome.CountRefused error) is = cc
 never_usage outcome.TooLong is = cc
 never_usage (outcome.RangesFull kept) is = cc
 never_usage outcome.ReadFailed is = cc

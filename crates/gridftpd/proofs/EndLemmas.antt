@@ -26,8 +26,11 @@ use Rattle.gft_eblock.specs.Channel.{Reader, to_come, wanted, refusal_of}
 use Rattle.gft_eblock.specs.Channel as channel
 use Rattle.gft_eblock.specs.Feeding.{Advances, Fails, event_arrivals}
 use Rattle.gft_eblock.proofs.ToComeLemmas.{to_come-done, to_come-nothing, to_come-early}
+use Rattle.gft_eod.specs.declared.error.EodError.{EodError}
+use Rattle.gft_eod.specs.Count.{IsCount, IsMet, IsWithin}
+use Rattle.gridftpd.proofs.CountLemmas.{count_is}
 use Rattle.gridftpd.specs.declared.intake.Intake.{Intake}
-use Rattle.gridftpd.specs.Cause.{told_by, IsLost, HasHole, IsFirstMissing, HasOtherTotal, NeedsMoreRanges, EndsBad}
+use Rattle.gridftpd.specs.Cause.{told_by, IsLost, HasHole, IsFirstMissing, IsMiscounted, count_of, refusal_at, NeedsMoreRanges, EndsBad}
 use Rattle.gridftpd.specs.Drain.{IsStored}
 use Rattle.gridftpd.specs.Follows.{Follows, HasKeptIn}
 
@@ -50,10 +53,6 @@ Consumes-append (Some xs) (Some ys) (Some zs) s t first next = first ∙ ap (λ 
 pub is_none : {A : Type 0} (o : Option A) → is_some o ≡ false → o ≡ None
 is_none None not = refl
 is_none (Some x) not = absurd (cc)
-
-pub total_is : (announced : Bool) → cond {A = Option ℕ} announced (Some 1) None ≡ then_some announced 1
-total_is true = refl
-total_is false = refl
 
 empty_list : (xs : List ℕ) → length xs ≡ 0 → xs ≡ []
 empty_list [] none = refl
@@ -92,7 +91,7 @@ module _ {D : Type 0} (state : D → DriveState) (start : DriveState) (stream : 
         announced = rw nothing refl;
         counted = rw nothing refl;
         first_missing = rw nothing (λ x y lt none. absurd none);
-        why = inl refl;
+        why = inl (λ some. cc);
       }
 
   -- the EOD came
@@ -101,40 +100,37 @@ module _ {D : Type 0} (state : D → DriveState) (start : DriveState) (stream : 
   missing_from list (Some gap) offsets some none = (some.non_empty, λ x lt. (offsets x).0 (some.below x lt), λ x inside came. some.inside x inside ((offsets x).1 came), (offsets gap.end).0 some.behind)
 
   pub hole_from : (left : Option (List ℕ)) (missing : Option Range) → Follows state start 1 stream intake → channel.IsDone intake.channel
-      → IfSome missing (IsFirstGap intake.keep.set.ranges) → IfNone missing (HasNoGap intake.keep.set.ranges) → (intake.announced ≡ false) ⊎ IsSome missing
-      → HasHole stream left (cond intake.announced (Some 1) None) 1 missing
+      → IfSome missing (IsFirstGap intake.keep.set.ranges) → IfNone missing (HasNoGap intake.keep.set.ranges) → (intake.count.total ≢ Some intake.count.eods) ⊎ IsSome missing
+      → HasHole stream left intake.count.total intake.count.eods missing
   hole_from left missing follows done some none why =
       let told = told_all follows done in
       record {
         ended = inr (ap eods told ∙ follows.eods);
-        announced = first_announced intake.announced ∙ ap first_of (sym follows.announced) ∙ ap (λ list. first_of (totals list)) (sym told);
-        counted = sym follows.eods ∙ ap eods (sym told);
+        announced = follows.counted.total ∙ ap (λ list. first_of (totals list)) (sym told);
+        counted = follows.counted.eods ∙ ap eods (sym told);
         first_missing = rw told (missing_from follows.told missing follows.offsets some none);
-        why = elim why [ inl untold ↦ inl (ap (λ (b : Bool). cond b (Some 1) None) untold) | inr there ↦ inr there ];
+        why = why;
       }
-    where
-      first_announced : (told : Bool) → cond told (Some 1) None ≡ first_of (cond told (1 ∷ []) [])
-      first_announced true = refl
-      first_announced false = refl
 
-  pub done_from : (end : ℕ) → Follows state start 1 stream intake → channel.IsDone intake.channel → intake.announced ≡ true → ((x : ℕ) → HasOffset intake.keep.set.ranges x ↔ (x < end)) → IsDone (told_by stream) end
-  done_from end follows done announced below =
-      let one : totals follows.told ≡ 1 ∷ [] = rw announced at follows.announced in
+  pub done_from : (end : ℕ) → Follows state start 1 stream intake → channel.IsDone intake.channel → IsMet intake.count → IsCount intake.count → ((x : ℕ) → HasOffset intake.keep.set.ranges x ↔ (x < end)) → IsDone (told_by stream) end
+  done_from end follows done met sound below =
+      let first : first_of (totals follows.told) ≡ Some intake.count.eods = sym follows.counted.total ∙ met in
+      let within = subst (λ (total : Option ℕ). IsWithin total intake.count.eods) met sound in
       rw (told_all follows done) (record {
-        total = 1;
-        announced = ap first_of one;
-        in_bounds = (omega arith, omega arith);
-        no_other = rw one (refl, tt);
-        met = follows.eods;
+        total = intake.count.eods;
+        announced = first;
+        in_bounds = (within.0, within.1);
+        no_other = follows.counted.agreed intake.count.eods first;
+        met = sym follows.counted.eods;
         whole = λ x. (λ came. (below x).0 ((follows.offsets x).1 came), λ lt. (follows.offsets x).0 ((below x).1 lt));
       })
 
-  pub stored_from : (end : ℕ) (new : DriveState) → Follows state start 1 stream intake → channel.IsDone intake.channel → intake.announced ≡ true → ((x : ℕ) → HasOffset intake.keep.set.ranges x ↔ (x < end))
+  pub stored_from : (end : ℕ) (new : DriveState) → Follows state start 1 stream intake → channel.IsDone intake.channel → IsMet intake.count → IsCount intake.count → ((x : ℕ) → HasOffset intake.keep.set.ranges x ↔ (x < end))
       → Reads Bytes (Finishes end) (state intake.keep.drive) new → IsStored stream start new
-  stored_from end new follows done announced below finished =
+  stored_from end new follows done met sound below finished =
       let told = told_all follows done in (
         end,
-        done_from end follows done announced below,
+        done_from end follows done met sound below,
         Reads-then Bytes (HasKeptIn follows.told intake.keep.set.ranges) (Finishes end) (λ before after. HasKept (told_by stream) end after) start (state intake.keep.drive) new follows.kept finished
             (λ xs ys zs kept finishes. record {
               size = finishes.size;
@@ -168,15 +164,16 @@ module _ {D : Type 0} (state : D → DriveState) (start : DriveState) (stream : 
       let whole : take step.used piece ++ [] ≡ piece = append-nil (take step.used piece) ∙ take_all step.used piece (omega arith) in
       rw whole at (advances.carried [])
 
-  pub total_from : (piece : List ℕ) (step : Step) (after : Reader) (total : ℕ) → Follows state start 0 stream intake → Advances intake.channel piece step after → step.used ≡ length piece
-      → step.event ≡ Some (event.Eof total) → (total ≢ 1) ⊎ (intake.announced ≡ true) → HasOtherTotal (told_by (stream ++ piece)) total
-  total_from piece step after total follows advances all is other =
-      let came : to_come intake.channel piece ≡ Eof total ∷ to_come after [] = rw is at (came_of piece step after advances all) in
+  pub miscounted_from : (piece : List ℕ) (step : Step) (after : Reader) (arrival : Arrival) (error : EodError) → Follows state start 0 stream intake → Advances intake.channel piece step after → step.used ≡ length piece
+      → event_arrivals step.event ≡ arrival ∷ [] → ((earlier : List Arrival) → count_of earlier ≡ intake.count → refusal_at earlier arrival ≡ Some error) → IsMiscounted (told_by (stream ++ piece)) error
+  miscounted_from piece step after arrival error follows advances all is refused =
+      let came : to_come intake.channel piece ≡ arrival ∷ to_come after [] = came_of piece step after advances all ∙ ap (λ front. front ++ to_come after []) is in
       record {
         earlier = follows.told;
+        arrival = arrival;
         later = to_come after [];
         split = follows.carried piece ∙ ap (λ rest. follows.told ++ rest) came;
-        other = elim other [ inl apart ↦ inl apart | inr announced ↦ inr (λ none. let one : totals follows.told ≡ 1 ∷ [] = rw announced at follows.announced in cc) ];
+        refused = refused follows.told (count_is follows.told intake.count follows.counted);
       }
 
   pub ranges_from : (piece : List ℕ) (step : Step) (after : Reader) (offset : ℕ) (bytes : Bor (List ℕ)) → Follows state start 0 stream intake → Advances intake.channel piece step after → step.used ≡ length piece

@@ -22,8 +22,10 @@ use Rattle.gft_eblock.specs.Channel.{to_come, wanted}
 use Rattle.gft_eblock.specs.Feeding.{Advances, event_arrivals}
 use Rattle.gft_eblock.proofs.EndingLemmas.{IsUnfinished-append, IsUnfinished-data_at}
 use Rattle.gft_eblock.proofs.ToComeLemmas.{to_come-early}
+use Rattle.gft_eod.specs.Refusal.{eof_refusal}
+use Rattle.gridftpd.proofs.CountLemmas.{Counts-same, Counts-eof, Counts-eod}
 use Rattle.gridftpd.specs.declared.intake.Intake.{Intake}
-use Rattle.gridftpd.specs.Follows.{Follows, HasKeptIn}
+use Rattle.gridftpd.specs.Follows.{Counts, Follows, HasKeptIn}
 use Rattle.gridftpd.proofs.ArrivalLemmas.{Arrives-append, totals-append, eods-append, Arrives-data_at, totals-data_at, eods-data_at, kept_byte-first, kept_byte-later, kept_byte-data_at}
 
 -- no more than was wanted has no EOD or bad header before its last byte
@@ -62,9 +64,9 @@ module _ {D : Type 0} (state : D → DriveState) (start : DriveState) (stream pi
   follows_more : (n : ℕ) → ((x : ℕ) → HasOffset new.keep.set.ranges x ↔ (HasOffset old.keep.set.ranges x ⊎ Arrives (event_arrivals step.event) x))
       → Reads Bytes (Books old.keep.set.ranges (event_arrivals step.event)) (state old.keep.drive) (state new.keep.drive)
       → Holds new.keep.set.ranges (state new.keep.drive) → Goes (state old.keep.drive) (state new.keep.drive) → new.keep.broken ≡ false
-      → cond old.announced (1 ∷ []) [] ++ totals (event_arrivals step.event) ≡ cond new.announced (1 ∷ []) []
+      → Counts (follows.told ++ event_arrivals step.event) new.count
       → eods (event_arrivals step.event) ≡ n → (n ≡ 0 → IsUnfinished (event_arrivals step.event)) → Follows state start n (stream ++ piece) new
-  follows_more n sets books holds goes whole announced ended unfinished =
+  follows_more n sets books holds goes whole counted ended unfinished =
       let brought = event_arrivals step.event in
       let all_of_it : take step.used piece ≡ piece = take_all step.used piece (omega arith) in
       record {
@@ -80,7 +82,7 @@ module _ {D : Type 0} (state : D → DriveState) (start : DriveState) (stream pi
         holds = holds;
         goes = Goes-then start (state old.keep.drive) (state new.keep.drive) follows.goes goes;
         whole = whole;
-        announced = totals-append follows.told brought ∙ ap (λ ts. ts ++ totals brought) follows.announced ∙ announced;
+        counted = counted;
         eods = eods-append follows.told brought ∙ omega (arith, follows.eods, ended);
         taken = omega (arith, advances.taken, follows.taken, length-append stream piece);
         unfinished = λ none. IsUnfinished-append follows.told brought (follows.unfinished refl) (unfinished none);
@@ -90,8 +92,8 @@ module _ {D : Type 0} (state : D → DriveState) (start : DriveState) (stream pi
   -- a piece of data was stored
   pub follows_piece : (offset : ℕ) (bytes : Bor (List ℕ)) → step.event ≡ Some (event.Piece offset bytes)
       → Reads Bytes (Stores old.keep.set.ranges (block_of offset bytes.now) bytes.now) (state old.keep.drive) (state new.keep.drive) → IsUnion old.keep.set.ranges (block_of offset bytes.now) new.keep.set.ranges
-      → Holds new.keep.set.ranges (state new.keep.drive) → Goes (state old.keep.drive) (state new.keep.drive) → new.keep.broken ≡ false → new.announced ≡ old.announced → Follows state start 0 (stream ++ piece) new
-  follows_piece offset bytes is stored union holds goes whole announced =
+      → Holds new.keep.set.ranges (state new.keep.drive) → Goes (state old.keep.drive) (state new.keep.drive) → new.keep.broken ≡ false → new.count ≡ old.count → Follows state start 0 (stream ++ piece) new
+  follows_piece offset bytes is stored union holds goes whole counted =
       follows_more 0
       (rw is (λ x.
       let inside = Arrives-data_at offset bytes.now x in
@@ -112,7 +114,7 @@ module _ {D : Type 0} (state : D → DriveState) (start : DriveState) (stream pi
       })
       stored))
       holds goes whole
-      (rw (is, announced) (ap (λ ts. cond old.announced (1 ∷ []) [] ++ ts) (totals-data_at offset bytes.now) ∙ append-nil (cond old.announced (1 ∷ []) [])))
+      (rw (is, counted) (Counts-same follows.told (data_at offset bytes.now) old.count follows.counted (totals-data_at offset bytes.now) (eods-data_at offset bytes.now)))
       (rw is (eods-data_at offset bytes.now))
       (λ none. rw is (IsUnfinished-data_at offset bytes.now))
 
@@ -123,17 +125,17 @@ module _ {D : Type 0} (state : D → DriveState) (start : DriveState) (stream pi
   books_nothing : (brought : List Arrival) → new.keep ≡ old.keep → ((x : ℕ) → ¬ Arrives brought x) → Reads Bytes (Books old.keep.set.ranges brought) (state old.keep.drive) (state new.keep.drive)
   books_nothing brought same none = rw same (Reads-same Bytes (Books old.keep.set.ranges brought) (state old.keep.drive) (λ xs. record { stays = λ x had. refl; fresh = λ x out came. absurd (none x came) }))
 
-  pub follows_none : step.event ≡ None → new.keep ≡ old.keep → new.announced ≡ old.announced → Follows state start 0 (stream ++ piece) new
-  follows_none is same announced =
+  pub follows_none : step.event ≡ None → new.keep ≡ old.keep → new.count ≡ old.count → Follows state start 0 (stream ++ piece) new
+  follows_none is same counted =
       follows_more 0 (rw is (nothing_booked [] same (λ x none. none))) (rw is (books_nothing [] same (λ x none. none)))
-      (rw same follows.holds) (rw same (Goes-refl (state old.keep.drive))) (rw same follows.whole) (rw (is, announced) (append-nil _)) (rw is refl) (λ none. rw is tt)
+      (rw same follows.holds) (rw same (Goes-refl (state old.keep.drive))) (rw same follows.whole) (rw (is, counted) (Counts-same follows.told [] old.count follows.counted refl refl)) (rw is refl) (λ none. rw is tt)
 
-  pub follows_eof : step.event ≡ Some (event.Eof 1) → new.keep ≡ old.keep → old.announced ≡ false → new.announced ≡ true → Follows state start 0 (stream ++ piece) new
-  follows_eof is same before after =
-      follows_more 0 (rw is (nothing_booked (Eof 1 ∷ []) same (λ x none. none))) (rw is (books_nothing (Eof 1 ∷ []) same (λ x none. none)))
-      (rw same follows.holds) (rw same (Goes-refl (state old.keep.drive))) (rw same follows.whole) (rw (is, before, after) refl) (rw is refl) (λ none. rw is tt)
+  pub follows_eof : (total : ℕ) → step.event ≡ Some (event.Eof total) → new.keep ≡ old.keep → eof_refusal old.count total ≡ None → new.count.total ≡ Some total → new.count.eods ≡ old.count.eods → Follows state start 0 (stream ++ piece) new
+  follows_eof total is same taken announced unchanged =
+      follows_more 0 (rw is (nothing_booked (Eof total ∷ []) same (λ x none. none))) (rw is (books_nothing (Eof total ∷ []) same (λ x none. none)))
+      (rw same follows.holds) (rw same (Goes-refl (state old.keep.drive))) (rw same follows.whole) (rw is (Counts-eof follows.told total old.count new.count follows.counted taken announced unchanged)) (rw is refl) (λ none. rw is tt)
 
-  pub follows_eod : step.event ≡ Some event.Eod → new.keep ≡ old.keep → new.announced ≡ old.announced → Follows state start 1 (stream ++ piece) new
-  follows_eod is same announced =
+  pub follows_eod : step.event ≡ Some event.Eod → new.keep ≡ old.keep → new.count.total ≡ old.count.total → new.count.eods ≡ old.count.eods + 1 → Follows state start 1 (stream ++ piece) new
+  follows_eod is same announced more =
       follows_more 1 (rw is (nothing_booked (Eod ∷ []) same (λ x none. none))) (rw is (books_nothing (Eod ∷ []) same (λ x none. none)))
-      (rw same follows.holds) (rw same (Goes-refl (state old.keep.drive))) (rw same follows.whole) (rw (is, announced) (append-nil _)) (rw is refl) (λ none. absurd (omega arith))
+      (rw same follows.holds) (rw same (Goes-refl (state old.keep.drive))) (rw same follows.whole) (rw is (Counts-eod follows.told old.count new.count follows.counted announced more)) (rw is refl) (λ none. absurd (omega arith))

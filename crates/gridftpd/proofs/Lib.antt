@@ -1,4 +1,5 @@
 pub mod ArrivalLemmas
+pub mod CountLemmas
 pub mod EndLemmas
 pub mod FollowLemmas
 pub mod OriginLemmas

@@ -1,13 +1,16 @@
 -- What each outcome says of the bytes that were taken of the input, and of what is left of it.
 use Rattle.std.specs.Prelude.{◌≡◌, ◌≢◌, ℕ, ◌+◌, ◌<◌, ◌⊎◌, ◌↔◌, List, [], ◌∷◌, ◌++◌, length, Option, None, Some, IsSome}
 use Rattle.std.specs.Io.KnownBytes.{IsAtEnd}
-use Rattle.gft_base.specs.Arrival.{Arrival, Refusal, Eof, Bad, Arrives, totals, eods}
+use Rattle.gft_base.specs.Arrival.{Arrival, Refusal, Eof, Eod, Bad, Arrives, totals, eods}
 use Rattle.gft_base.specs.Done.{IsDone, first_of}
 use Rattle.gft_range.specs.declared.range.Range.{Range}
 use Rattle.gft_range.specs.Range.{InRange, HasOffset}
 use Rattle.gft_eblock.specs.declared.channel.TheConstants.{MOST_BYTES}
 use Rattle.gft_eblock.specs.Arrivals.{arrivals, data_at, IsUnfinished}
 use Rattle.gft_eblock.specs.Channel.{refusal_of}
+use Rattle.gft_eod.specs.declared.error.EodError.{EodError}
+use Rattle.gft_eod.specs.Count.{Count}
+use Rattle.gft_eod.specs.Refusal.{eof_refusal, eod_refusal}
 use Rattle.gft_keep.specs.declared.keep.TheConstants.{MOST_RANGES}
 use Rattle.gft_keep.specs.Store.{IsFull, block_of}
 use Rattle.gridftpd.specs.declared.outcome.Outcome.{Outcome}
@@ -30,20 +33,31 @@ IsFirstMissing list None = (x y : ℕ) → x < y → Arrives list y → Arrives 
 IsFirstMissing list (Some gap) =
     (gap.start < gap.end) × ((x : ℕ) → x < gap.start → Arrives list x) × ((x : ℕ) → InRange gap x → ¬ Arrives list x) × Arrives list gap.end
 
--- no byte came, or the EOD did; and no total was announced, or offsets are missing
+-- no byte came, or the EOD did; and the total isn't met, or offsets are missing
 pub record HasHole (stream : List ℕ) (left : Option (List ℕ)) (total : Option ℕ) (number : ℕ) (missing : Option Range) : Type 0 where
   pub ended : ((stream ≡ []) × IsAtEnd left) ⊎ (eods (told_by stream) ≡ 1)
   pub announced : total ≡ first_of (totals (told_by stream))
   pub counted : number ≡ eods (told_by stream)
   pub first_missing : IsFirstMissing (told_by stream) missing
-  pub why : (total ≡ None) ⊎ IsSome missing
+  pub why : (total ≢ Some number) ⊎ IsSome missing
 
--- an EOF header announces another total than 1, or is the second one
-pub record HasOtherTotal (list : List Arrival) (total : ℕ) : Type 0 where
+-- the count of these arrivals: the first total, and the EODs
+abbrev pub count_of : List Arrival → Count
+count_of list = record { total = first_of (totals list); eods = eods list }
+
+-- why the count refuses what arrives next, if it does
+abbrev pub refusal_at : List Arrival → Arrival → Option EodError
+refusal_at earlier (Eof total) = eof_refusal (count_of earlier) total
+refusal_at earlier Eod = eod_refusal (count_of earlier)
+refusal_at earlier other = None
+
+-- the count refuses one of the arrivals
+pub record IsMiscounted (list : List Arrival) (error : EodError) : Type 0 where
   pub earlier : List Arrival
+  pub arrival : Arrival
   pub later : List Arrival
-  pub split : list ≡ earlier ++ Eof total ∷ later
-  pub other : (total ≢ 1) ⊎ (totals earlier ≢ [])
+  pub split : list ≡ earlier ++ arrival ∷ later
+  pub refused : refusal_at earlier arrival ≡ Some error
 
 -- as many ranges arrived as may be kept, and a piece of data would make one more
 pub record NeedsMoreRanges (list : List Arrival) : Type 0 where
@@ -69,7 +83,7 @@ IsCause outcome.Complete stream left = (end : ℕ) × IsDone (told_by stream) en
 IsCause (outcome.Lost taken) stream left = IsLost stream left taken
 IsCause (outcome.Hole total number missing) stream left = HasHole stream left total number missing
 IsCause (outcome.BadBlock bad) stream left = EndsBad stream (refusal_of bad)
-IsCause (outcome.OtherTotal total) stream left = HasOtherTotal (told_by stream) total
+IsCause (outcome.CountRefused error) stream left = IsMiscounted (told_by stream) error
 IsCause outcome.TooLong stream left = length stream ≡ MOST_BYTES
 IsCause (outcome.RangesFull kept) stream left = (kept ≡ MOST_RANGES) × NeedsMoreRanges (told_by stream)
 IsCause outcome.ReadFailed stream left = Unit {0}

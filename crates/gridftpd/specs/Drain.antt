@@ -45,7 +45,7 @@ abbrev pub IsRefusal : Outcome → Type 0
 IsRefusal (outcome.Lost taken) = Unit {0}
 IsRefusal (outcome.Hole total number missing) = Unit {0}
 IsRefusal (outcome.BadBlock bad) = Unit {0}
-IsRefusal (outcome.OtherTotal total) = Unit {0}
+IsRefusal (outcome.CountRefused error) = Unit {0}
 IsRefusal outcome.TooLong = Unit {0}
 IsRefusal (outcome.RangesFull kept) = Unit {0}
 IsRefusal other = ⊥
@@ -63,9 +63,8 @@ pub record IsHonest (source : List ℕ) (list : List Arrival) : Type 0 where
   pub truthful : IsTruthful source list
   pub whole : 0 < eods list → (x : ℕ) → x < length source → Arrives list x
 
--- an input that is done up to its EOD, which comes within 2^58 bytes; its one total is 1, and its pieces need no more ranges than may be kept
+-- an input that is done up to its EOD, which comes within 2^58 bytes, and no piece of which needs more ranges than may be kept
 pub record IsGood (bytes : List ℕ) (end : ℕ) : Type 0 where
   pub done : IsDone (told_by bytes) end
   pub soon : (n : ℕ) × (n < MOST_BYTES) × HasEnded (told_by (take n bytes))
-  pub one_total : totals (told_by bytes) ≡ 1 ∷ []
   pub few_ranges : ¬ NeedsMoreRanges (told_by bytes)

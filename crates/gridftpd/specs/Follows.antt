@@ -1,12 +1,14 @@
 -- How an intake stands to the bytes that it took.
-use Rattle.std.specs.Prelude.{◌≡◌, ℕ, ◌<◌, ◌↔◌, Some, List, [], ◌∷◌, ◌++◌, if◌then◌else◌, false, length, take, slice_index}
+use Rattle.std.specs.Prelude.{◌≡◌, ℕ, ◌<◌, ◌↔◌, Some, List, [], ◌∷◌, ◌++◌, false, length, take, slice_index}
 use Rattle.gft_base.specs.Arrival.{Arrival, Arrives, totals, eods}
+use Rattle.gft_base.specs.Done.{first_of, AllAre}
 use Rattle.gft_base.specs.Kept.{kept_byte}
 use Rattle.gft_range.specs.declared.range.Range.{Range}
 use Rattle.gft_range.specs.Range.{HasOffset}
 use Rattle.gft_drive.specs.Drive.{DriveState, Goes, Reads}
 use Rattle.gft_drive.specs.declared.drive.Part.TheVariants.{Bytes}
 use Rattle.gft_keep.specs.Holds.{Holds}
+use Rattle.gft_eod.specs.Count.{Count}
 use Rattle.gft_eblock.specs.Arrivals.{arrivals, IsUnfinished}
 use Rattle.gft_eblock.specs.Channel.{to_come}
 use Rattle.gridftpd.specs.declared.intake.Intake.{Intake}
@@ -14,6 +16,12 @@ use Rattle.gridftpd.specs.declared.intake.Intake.{Intake}
 -- at each offset of the set the file has the kept byte
 abbrev pub HasKeptIn : List Arrival → List Range → List ℕ → List ℕ → Type 0
 HasKeptIn told set before after = (x : ℕ) → HasOffset set x → kept_byte told x ≡ Some (slice_index after x)
+
+-- the count is that of the arrivals, and each total is the first
+pub record Counts (list : List Arrival) (count : Count) : Type 0 where
+  pub total : count.total ≡ first_of (totals list)
+  pub eods : count.eods ≡ eods list
+  pub agreed : (total : ℕ) → first_of (totals list) ≡ Some total → AllAre total (totals list)
 
 -- the intake took this stream since its drive was in the state `start`, and was told of so many EODs
 pub record Follows {D : Type 0} (state : D → DriveState) (start : DriveState) (number : ℕ) (stream : List ℕ) (intake : Intake D) : Type 0 where
@@ -24,7 +32,7 @@ pub record Follows {D : Type 0} (state : D → DriveState) (start : DriveState) 
   pub holds : Holds intake.keep.set.ranges (state intake.keep.drive)
   pub goes : Goes start (state intake.keep.drive)
   pub whole : intake.keep.broken ≡ false
-  pub announced : totals told ≡ (if intake.announced then 1 ∷ [] else [])
+  pub counted : Counts told intake.count
   pub eods : eods told ≡ number
   pub taken : intake.channel.taken ≡ length stream
   pub unfinished : number ≡ 0 → IsUnfinished told

@@ -2,6 +2,8 @@
 use Rattle.std.specs.Prelude.{ℕ, List, ◌++◌, codes, Option, None, Some}
 use Rattle.std.specs.Fmt.{decimal}
 use Rattle.gft_eblock.specs.declared.bad_block.BadBlock.{BadBlock}
+use Rattle.gft_eod.specs.declared.error.EodError.{EodError}
+use Rattle.gft_eod.specs.declared.error.EodError.TheVariants.{BadTotal, TwoTotals, TooManyEods}
 use Rattle.gft_range.specs.declared.range.Range.{Range}
 use Rattle.gridftpd.specs.declared.outcome.Outcome.{Outcome}
 use Rattle.gridftpd.specs.declared.outcome.Outcome.TheVariants as outcome
@@ -31,8 +33,10 @@ unfoldable pub bad_block_text : BadBlock → List ℕ
 bad_block_text bad =
     codes "426 Bad block at " ++ (decimal bad.place ++ (codes ": flags " ++ (decimal bad.flags ++ (codes ", count " ++ (decimal bad.count ++ (codes ", offset " ++ (decimal bad.offset ++ codes ".\n")))))))
 
-unfoldable pub other_total_text : ℕ → List ℕ
-other_total_text total = codes "426 Not built: total " ++ (decimal total ++ codes ".\n")
+unfoldable pub count_refused_text : EodError → List ℕ
+count_refused_text (BadTotal total) = codes "426 Bad total: " ++ (decimal total ++ codes ".\n")
+count_refused_text (TwoTotals kept other) = codes "426 Two totals: " ++ (decimal kept ++ (codes " and " ++ (decimal other ++ codes ".\n")))
+count_refused_text (TooManyEods total) = codes "426 Too many EODs: total " ++ (decimal total ++ codes ".\n")
 
 unfoldable pub too_long_text : List ℕ
 too_long_text = codes "426 Stream too long: lane 0.\n"
@@ -54,7 +58,7 @@ text_of outcome.Complete = complete_text
 text_of (outcome.Lost taken) = lost_text taken
 text_of (outcome.Hole total eods missing) = hole_text total eods missing
 text_of (outcome.BadBlock bad) = bad_block_text bad
-text_of (outcome.OtherTotal total) = other_total_text total
+text_of (outcome.CountRefused error) = count_refused_text error
 text_of outcome.TooLong = too_long_text
 text_of (outcome.RangesFull kept) = ranges_full_text kept
 text_of outcome.ReadFailed = read_failed_text

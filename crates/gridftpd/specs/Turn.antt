@@ -5,7 +5,7 @@ use Rattle.gridftpd.specs.declared.outcome.Outcome.TheVariants as outcome
 -- those of one piece
 abbrev pub IsTurnsOutcome : Outcome → Type 0
 IsTurnsOutcome (outcome.BadBlock bad) = Unit {0}
-IsTurnsOutcome (outcome.OtherTotal total) = Unit {0}
+IsTurnsOutcome (outcome.CountRefused error) = Unit {0}
 IsTurnsOutcome (outcome.RangesFull kept) = Unit {0}
 IsTurnsOutcome outcome.DriveFailed = Unit {0}
 IsTurnsOutcome outcome.OutOfMemory = Unit {0}

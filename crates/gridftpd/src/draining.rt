@@ -11,7 +11,7 @@ ghost use Rattle.gridftpd.specs.declared.outcome.Outcome.{Outcome};
 
 use crate::intake::Intake;
 use crate::line::{
-    bad_block_line, complete_line, drive_failed_line, hole_line, lost_line, other_total_line,
+    bad_block_line, complete_line, count_refused_line, drive_failed_line, hole_line, lost_line,
     out_of_memory_line, ranges_full_line, read_failed_line, too_long_line, usage_line,
 };
 use crate::outcome::Outcome;
@@ -31,7 +31,7 @@ const READ_LEN: usize = 65_536;
 /// | Status | Line |
 /// |---|---|
 /// | 0 | `226 Transfer complete.`: the total is announced, its EODs came, and the data covers the file |
-/// | 1 | a 426 or 452 line: the input was lost, has a hole, a bad block, another total than 1, too many bytes or too many ranges |
+/// | 1 | a 426 or 452 line: the input was lost, has a hole, a bad block, a count that is refused, too many bytes or too many ranges |
 /// | 2 | `usage: gridftpd drain NAME`: other words |
 /// | 3 | `451 Read failed.`: a read of the input failed |
 /// | 4 | a part of the line: a put failed |
@@ -121,7 +121,7 @@ pub(crate) fn tell<W: Sink>(alloc: Global, out: &mut W, outcome: &Outcome) -> St
             missing,
         } => put_made(out, hole_line(alloc, total, eods, missing)),
         Outcome::BadBlock(bad) => put_made(out, bad_block_line(alloc, &bad)),
-        Outcome::OtherTotal { total } => put_made(out, other_total_line(alloc, total)),
+        Outcome::CountRefused(error) => put_made(out, count_refused_line(alloc, error)),
         Outcome::TooLong => put(out, too_long_line(), Status::Refused),
         Outcome::RangesFull { kept } => put_made(out, ranges_full_line(alloc, kept)),
         Outcome::ReadFailed => put(out, read_failed_line(), Status::ReadFailed),

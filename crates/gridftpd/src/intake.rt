@@ -13,15 +13,16 @@ use crate::reading::read_next;
 use gft_base::Failed;
 use gft_drive::{Drive, Source};
 use gft_eblock::{Channel, Event, MOST_BYTES};
+use gft_eod::EodCount;
 use gft_keep::{Keep, KeepError};
 
-/// One recorded data connection on its way into a file: the channel, the file with its set, and
-/// whether a total of 1 was announced.
+/// One recorded data connection on its way into a file: the channel, the file with its set, and the
+/// count of EODs.
 #[derive(Drop)]
 pub(crate) struct Intake<D: Drive + Drop> {
     channel: Channel,
     keep: Keep<D>,
-    announced: bool,
+    count: EodCount,
 }
 
 impl<D: Drive + Drop> Intake<D> {
@@ -38,7 +39,7 @@ impl<D: Drive + Drop> Intake<D> {
         Intake {
             channel: Channel::new(0),
             keep,
-            announced: false,
+            count: EodCount::new(),
         }
     }
 
@@ -113,14 +114,14 @@ impl<D: Drive + Drop> Intake<D> {
                 Err(KeepError::OutOfMemory) => Err(Outcome::OutOfMemory),
                 Err(KeepError::Failed) => Err(Outcome::DriveFailed),
             },
-            Event::Eof { total } => {
-                if total != 1 || self.announced {
-                    return Err(Outcome::OtherTotal { total });
-                }
-                self.announced = true;
-                Ok(false)
-            }
-            Event::Eod => Ok(true),
+            Event::Eof { total } => match self.count.eof(total) {
+                Ok(()) => Ok(false),
+                Err(error) => Err(Outcome::CountRefused(error)),
+            },
+            Event::Eod => match self.count.eod() {
+                Ok(()) => Ok(true),
+                Err(error) => Err(Outcome::CountRefused(error)),
+            },
         }
     }
 
@@ -156,10 +157,10 @@ impl<D: Drive + Drop> Intake<D> {
         ensures goes { Goes (D.state self.old.keep.drive) (D.state self.new.keep.drive) }
     {
         let missing = self.keep.ranges().first_gap();
-        if !self.announced || missing.is_some() {
+        if !self.count.is_met() || missing.is_some() {
             return Outcome::Hole {
-                total: self.announced.then_some(1),
-                eods: 1,
+                total: self.count.total(),
+                eods: self.count.eods(),
                 missing,
             };
         }

@@ -1,9 +1,10 @@
 //! The line that `drain` prints. Each text stands here once.
 
 ghost use Rattle.std.specs.Prelude.{◌≡◌, IfOk, Some, string_bytes};
-ghost use Rattle.gridftpd.specs.Line.{usage_text, complete_text, lost_text, hole_text, bad_block_text, other_total_text, too_long_text, ranges_full_text, read_failed_text, drive_failed_text, out_of_memory_text, number_text, range_text};
+ghost use Rattle.gridftpd.specs.Line.{usage_text, complete_text, lost_text, hole_text, bad_block_text, count_refused_text, too_long_text, ranges_full_text, read_failed_text, drive_failed_text, out_of_memory_text, number_text, range_text};
 
 use gft_eblock::BadBlock;
+use gft_eod::EodError;
 use gft_range::Range;
 use std::alloc::{AllocError, Global};
 use std::fmt;
@@ -84,11 +85,19 @@ pub(crate) fn bad_block_line(alloc: Global, bad: &BadBlock) -> Result<String, Al
     format!(in alloc; "426 Bad block at {place}: flags {flags}, count {count}, offset {offset}.\n")
 }
 
-#[tactic(auto, unfolding(crate::specs::Line::other_total_text))]
-pub(crate) fn other_total_line(alloc: Global, total: u64) -> Result<String, AllocError>
-    ensures { IfOk result (λ line. string_bytes line ≡ other_total_text total) }
+#[tactic(auto, unfolding(crate::specs::Line::count_refused_text))]
+pub(crate) fn count_refused_line(alloc: Global, error: EodError) -> Result<String, AllocError>
+    ensures { IfOk result (λ line. string_bytes line ≡ count_refused_text error) }
 {
-    format!(in alloc; "426 Not built: total {total}.\n")
+    match error {
+        EodError::BadTotal { total } => format!(in alloc; "426 Bad total: {total}.\n"),
+        EodError::TwoTotals { kept, new } => {
+            format!(in alloc; "426 Two totals: {kept} and {new}.\n")
+        }
+        EodError::TooManyEods { total } => {
+            format!(in alloc; "426 Too many EODs: total {total}.\n")
+        }
+    }
 }
 
 #[tactic(auto, unfolding(crate::specs::Line::ranges_full_text))]

@@ -1,4 +1,5 @@
 use gft_eblock::BadBlock;
+use gft_eod::EodError;
 use gft_range::Range;
 
 /// How the input of `drain` ended.
@@ -10,7 +11,7 @@ pub enum Outcome {
     Lost {
         taken: u64,
     },
-    /// It ended without a byte, or its EOD came and no total was announced, or offsets below the
+    /// It ended without a byte, or its EOD came and the total isn't met, or offsets below the
     /// greatest end are missing: the total and the first missing ones, where they are there.
     Hole {
         total: Option<u64>,
@@ -19,10 +20,8 @@ pub enum Outcome {
     },
     /// A header was refused.
     BadBlock(BadBlock),
-    /// An EOF header has another total than 1, or is the second one.
-    OtherTotal {
-        total: u64,
-    },
+    /// An EOF or an EOD was refused by the count.
+    CountRefused(EodError),
     /// 2^58 bytes were taken.
     TooLong,
     /// So many ranges are kept, and one more would be needed.

@@ -31,7 +31,7 @@ const USAGE: &str = "usage: gridftpd drain NAME\n";
 const LONG: &str =
     "nnnnnnnnnnnnnnnnnnnnnnnnnnnnnnnnnnnnnnnnnnnnnnnnnnnnnnnnnnnnnnnnnnnnnnnnnnnnnnnnnnnnnnnnnnnnnnnnnnnnnnnnnnnnnnnnnnnnnnnnnnnnnnnnnnnnnnnnnnnnnnnnnnnnnnnnnnnnnnnnnnnnnnnnnnnnnnnnnnnnnnnnnnnnnnnnnnnnnnnnn";
 
-static RECORDINGS: [Row; 12] = [
+static RECORDINGS: [Row; 15] = [
     Row {
         words: GOOD,
         blocks: &[(0, 0, "hello"), (64, 1, ""), (12, 0, "")],
@@ -98,19 +98,43 @@ static RECORDINGS: [Row; 12] = [
     },
     Row {
         words: GOOD,
-        blocks: &[(64, 2, "")],
+        blocks: &[(64, 2, ""), (64, 3, "")],
         there: ALL,
         status: 1,
-        line: "426 Not built: total 2.\n",
+        line: "426 Two totals: 2 and 3.\n",
         file: None,
     },
     Row {
         words: GOOD,
-        blocks: &[(64, 1, ""), (64, 1, "")],
+        blocks: &[(64, 2, ""), (8, 0, "")],
         there: ALL,
         status: 1,
-        line: "426 Not built: total 1.\n",
+        line: "426 Hole: total 2, EODs 1, first missing none.\n",
         file: None,
+    },
+    Row {
+        words: GOOD,
+        blocks: &[(64, 0, "")],
+        there: ALL,
+        status: 1,
+        line: "426 Bad total: 0.\n",
+        file: None,
+    },
+    Row {
+        words: GOOD,
+        blocks: &[(64, 1025, "")],
+        there: ALL,
+        status: 1,
+        line: "426 Bad total: 1025.\n",
+        file: None,
+    },
+    Row {
+        words: GOOD,
+        blocks: &[(64, 1, ""), (64, 1, ""), (0, 0, "ab"), (8, 0, "")],
+        there: ALL,
+        status: 0,
+        line: COMPLETE,
+        file: Some("ab"),
     },
     Row {
         words: GOOD,

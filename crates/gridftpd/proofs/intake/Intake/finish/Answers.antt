@@ -1,33 +1,33 @@
-use Rattle.std.proofs.Common.{◌≡◌, ℕ, ◌⊎◌, List, Option, IsSome, false, sym, subst, ap, ◌∙◌, inl, inr}
+use Rattle.std.proofs.Common.{◌≡◌, ◌≢◌, ℕ, ◌<◌, ◌↔◌, ◌⊎◌, List, Option, Some, None, IsSome, Bool, true, false, sym, refl, subst, ap, ◌∙◌, inl, inr}
 use Rattle.std.specs.Prelude.{IfSome, IfNone}
 use Rattle.gft_range.specs.declared.range.Range.{Range}
 use Rattle.gft_range.specs.FirstGap.{IsFirstGap, HasNoGap}
 use Rattle.gft_range.specs.Set.{KeptRanges}
 use Rattle.gridftpd.specs.Cause.{HasHole}
-use Rattle.gridftpd.proofs.EndLemmas.{hole_from, done_from, stored_from, below_end, is_none, total_is}
+use Rattle.gridftpd.proofs.EndLemmas.{hole_from, done_from, stored_from, below_end, is_none}
 use Rattle.gridftpd.proofs.intake.Intake.finish.Goals as goal
-use Rattle.gridftpd.proofs.intake.Intake.finish.Goals.{then-not-self-via-then-not-self, then-not-self-via-else-not-self+then-is_some}
+use Rattle.gridftpd.proofs.intake.Intake.finish.Goals.{then-not-is_met-via-then-not-is_met, then-not-is_met-via-else-not-is_met+then-is_some}
 
-pub returns-then-not-self-clause-caused : goal.returns-then-not-self-clause-caused
-returns-then-not-self-clause-caused g c start stream left follows done =
+pub returns-then-not-is_met-clause-caused : goal.returns-then-not-is_met-clause-caused
+returns-then-not-is_met-clause-caused g c start stream left follows done =
     let set = c.args.self.now.keep.set.ranges in
+    let count = c.args.self.now.count in
     let same : c.ranges-2.result.now.ranges ≡ set = ap (λ (kept : KeptRanges). kept.ranges) c.ranges-2.ensures in
     let missing = c.first_gap-missing.result in
     let gap : IfSome missing (IsFirstGap set) = subst (λ (rs : List Range). IfSome missing (IsFirstGap rs)) same c.first_gap-missing.ensures.gap in
     let no_gap : IfNone missing (HasNoGap set) = subst (λ (rs : List Range). IfNone missing (HasNoGap rs)) same c.first_gap-missing.ensures.none in
-    let why : (c.args.self.now.announced ≡ false) ⊎ IsSome missing = elim c.then-not-self.branch [
-      | then-not-self-via-then-not-self w ↦ inl w.if-not-self.true
-      | then-not-self-via-else-not-self+then-is_some w ↦ inr (sym w.is_some.ensures ∙ w.if-is_some.true)
+    let why : (count.total ≢ Some count.eods) ⊎ IsSome missing = elim c.then-not-is_met.branch [
+      | then-not-is_met-via-then-not-is_met w ↦ inl (λ met. let no : false ≡ true = sym w.if-not-is_met.true ∙ c.is_met.ensures.met.1 met in cc)
+      | then-not-is_met-via-else-not-is_met+then-is_some w ↦ inr (sym w.is_some.ensures ∙ w.if-is_some.true)
     ] in
-    subst (λ (total : Option ℕ). HasHole stream left total 1 missing) (total_is c.args.self.now.announced ∙ sym c.then_some.ensures)
-    (hole_from g.D.Drive.state start stream c.args.self.now left missing follows done gap no_gap why)
+    rw (c.total.ensures.total, c.eods.ensures.eods) (hole_from g.D.Drive.state start stream c.args.self.now left missing follows done gap no_gap why)
 
 pub returns-in-Ok-clause-caused : goal.returns-in-Ok-clause-caused
 returns-in-Ok-clause-caused g c start stream left follows done =
     let below = below_end c.args.self.now.keep.set c.ranges-2.result.now c.ranges-3.result.now c.end-end.result c.first_gap-missing.result c.ranges-2.ensures c.ranges-3.ensures (is_none c.first_gap-missing.result (sym c.is_some.ensures ∙ c.if-is_some.false)) c.first_gap-missing.ensures.none c.end-end.ensures.whole in
-    (c.end-end.result, done_from g.D.Drive.state start stream c.args.self.now c.end-end.result follows done c.if-not-self.false below)
+    (c.end-end.result, done_from g.D.Drive.state start stream c.args.self.now c.end-end.result follows done (c.is_met.ensures.met.0 c.if-not-is_met.false) c.is_met.ensures.count below)
 
 pub returns-in-Ok-clause-complete : goal.returns-in-Ok-clause-complete
 returns-in-Ok-clause-complete g c start stream follows done complete =
     let below = below_end c.args.self.now.keep.set c.ranges-2.result.now c.ranges-3.result.now c.end-end.result c.first_gap-missing.result c.ranges-2.ensures c.ranges-3.ensures (is_none c.first_gap-missing.result (sym c.is_some.ensures ∙ c.if-is_some.false)) c.first_gap-missing.ensures.none c.end-end.ensures.whole in
-    stored_from g.D.Drive.state start stream c.args.self.now c.end-end.result (g.D.Drive.state c.finish.new.self.drive) follows done c.if-not-self.false below c.in-Ok.ensures.finished
+    stored_from g.D.Drive.state start stream c.args.self.now c.end-end.result (g.D.Drive.state c.finish.new.self.drive) follows done (c.is_met.ensures.met.0 c.if-not-is_met.false) c.is_met.ensures.count below c.in-Ok.ensures.finished

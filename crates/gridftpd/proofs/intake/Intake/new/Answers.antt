@@ -17,7 +17,7 @@ returns-clause-follows g c =
       holds = λ image told x had. absurd (none x had);
       goes = Goes-refl (g.D.Drive.state c.args.keep.drive);
       whole = c.requires.whole;
-      announced = refl;
+      counted = record { total = c.new-2.ensures.total; eods = c.new-2.ensures.eods; agreed = λ total first. tt };
       eods = refl;
       taken = c.new.ensures.taken;
       unfinished = λ zero. tt;

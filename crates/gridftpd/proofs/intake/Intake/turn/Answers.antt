@@ -1,9 +1,11 @@
-use Rattle.std.proofs.Common.{Some, Err, ap, ◌∙◌, refl, inl, inr}
-use Rattle.gft_eblock.specs.declared.event.Event.TheVariants.{Eof}
+use Rattle.std.proofs.Common.{◌≡◌, Some, Err, ap, sym, subst, ◌∙◌, refl}
+use Rattle.gft_eod.specs.Count.{Count}
+use Rattle.gft_eod.specs.Refusal.{eof_refusal, eod_refusal}
+use Rattle.gft_base.specs.Arrival.{Eof, Eod}
+use Rattle.gft_eblock.specs.Feeding.{event_arrivals}
 use Rattle.gridftpd.proofs.FollowLemmas.{follows_none, follows_piece, follows_eof, follows_eod}
-use Rattle.gridftpd.proofs.EndLemmas.{is_false, bad_from, total_from, ranges_from}
+use Rattle.gridftpd.proofs.EndLemmas.{is_false, bad_from, miscounted_from, ranges_from}
 use Rattle.gridftpd.proofs.intake.Intake.turn.Goals as goal
-use Rattle.gridftpd.proofs.intake.Intake.turn.Goals.{then-total-ne1-via-then-total-ne1, then-total-ne1-via-else-total-ne1+then-self}
 
 pub returns-in-Ok-store-clause-follows : goal.returns-in-Ok-store-clause-follows
 returns-in-Ok-store-clause-follows g c start stream follows =
@@ -14,24 +16,28 @@ pub returns-in_default-clause-follows : goal.returns-in_default-clause-follows
 returns-in_default-clause-follows g c start stream follows =
     follows_none g.D.Drive.state start stream c.args.piece.now c.args.self.now _ c.in-Ok.step follows c.in-Ok.ensures.ok (c.in-Ok.ensures.wanted c.requires.wanted) c.requires.wanted c.in_default.is refl refl
 
-pub returns-else-self-clause-follows : goal.returns-else-self-clause-follows
-returns-else-self-clause-follows g c start stream follows =
-    follows_eof g.D.Drive.state start stream c.args.piece.now c.args.self.now _ c.in-Ok.step follows c.in-Ok.ensures.ok (c.in-Ok.ensures.wanted c.requires.wanted) c.requires.wanted
-    (c.in-Some.is ∙ ap (λ event. Some event) (c.in-Eof.is ∙ ap (λ n. Eof n) c.if-total-ne1.false)) refl c.if-self.false refl
+pub returns-in-Ok-eof-clause-follows : goal.returns-in-Ok-eof-clause-follows
+returns-in-Ok-eof-clause-follows g c start stream follows =
+    follows_eof g.D.Drive.state start stream c.args.piece.now c.args.self.now _ c.in-Ok.step follows c.in-Ok.ensures.ok (c.in-Ok.ensures.wanted c.requires.wanted) c.requires.wanted c.in-Eof.total
+    (c.in-Some.is ∙ ap (λ event. Some event) c.in-Eof.is) refl c.in-Ok-eof.ensures.taken c.in-Ok-eof.ensures.total c.eof.ensures.eods
 
-pub returns-in-Eod-clause-follows : goal.returns-in-Eod-clause-follows
-returns-in-Eod-clause-follows g c start stream follows =
+pub returns-in-Err-eof-clause-caused : goal.returns-in-Err-eof-clause-caused
+returns-in-Err-eof-clause-caused g c start stream left follows =
+    miscounted_from g.D.Drive.state start stream c.args.self.now c.args.piece.now c.in-Ok.step _ (Eof c.in-Eof.total) c.in-Err-eof.error follows c.in-Ok.ensures.ok (c.in-Ok.ensures.wanted c.requires.wanted)
+    (ap (λ event. event_arrivals event) (c.in-Some.is ∙ ap (λ event. Some event) c.in-Eof.is)) (λ earlier is. subst (λ (count : Count). eof_refusal count c.in-Eof.total ≡ Some c.in-Err-eof.error) (sym is) c.in-Err-eof.ensures.refused)
+
+pub returns-in-Ok-eod-clause-follows : goal.returns-in-Ok-eod-clause-follows
+returns-in-Ok-eod-clause-follows g c start stream follows =
     follows_eod g.D.Drive.state start stream c.args.piece.now c.args.self.now _ c.in-Ok.step follows c.in-Ok.ensures.ok (c.in-Ok.ensures.wanted c.requires.wanted) c.requires.wanted
-    (c.in-Some.is ∙ ap (λ event. Some event) c.in-Eod.is) refl refl
+    (c.in-Some.is ∙ ap (λ event. Some event) c.in-Eod.is) refl c.eod.ensures.total c.in-Ok-eod.ensures.eods
+
+pub returns-in-Err-eod-clause-caused : goal.returns-in-Err-eod-clause-caused
+returns-in-Err-eod-clause-caused g c start stream left follows =
+    miscounted_from g.D.Drive.state start stream c.args.self.now c.args.piece.now c.in-Ok.step _ Eod c.in-Err-eod.error follows c.in-Ok.ensures.ok (c.in-Ok.ensures.wanted c.requires.wanted)
+    (ap (λ event. event_arrivals event) (c.in-Some.is ∙ ap (λ event. Some event) c.in-Eod.is)) (λ earlier is. subst (λ (count : Count). eod_refusal count ≡ Some c.in-Err-eod.error) (sym is) c.in-Err-eod.ensures.refused)
 
 pub returns-in-Err-clause-caused : goal.returns-in-Err-clause-caused
 returns-in-Err-clause-caused g c start stream left follows = bad_from g.D.Drive.state start stream c.args.self.now c.args.piece.now c.in-Err.bad _ follows c.requires.wanted c.in-Err.ensures.bad
-
-pub returns-then-total-ne1-clause-caused : goal.returns-then-total-ne1-clause-caused
-returns-then-total-ne1-clause-caused g c start stream left follows =
-    total_from g.D.Drive.state start stream c.args.self.now c.args.piece.now c.in-Ok.step _ c.in-Eof.total follows c.in-Ok.ensures.ok (c.in-Ok.ensures.wanted c.requires.wanted)
-    (c.in-Some.is ∙ ap (λ event. Some event) c.in-Eof.is)
-    (elim c.then-total-ne1.branch [ then-total-ne1-via-then-total-ne1 w ↦ inl w.if-total-ne1.true | then-total-ne1-via-else-total-ne1+then-self w ↦ inr w.if-self.true ])
 
 pub returns-in-Err-RangesFull-clause-caused : goal.returns-in-Err-RangesFull-clause-caused
 returns-in-Err-RangesFull-clause-caused g c start stream left follows =
