@@ -1,0 +1,7 @@
+use Rattle.std.proofs.Common.{rules, tests, eqb}
+use Rattle.std.proofs.lemmas.Iterator.{YieldsList-from_slice}
+use Rattle.std.proofs.lemmas.Iterator.Search.{position_from_yields_List}
+use Rattle.gft_text.proofs.parts.find_byte.Goals as goal
+
+pub returns : goal.returns
+returns c = position_from_yields_List (λ b. eqb b c.args.wanted) _ _ _ c.position.ensures.ran (YieldsList-from_slice _ c.iter.ensures.rest) (λ x b q k. search (rules, tests))

@@ -1,0 +1,7 @@
+pub mod HostPort
+pub mod LineStream
+pub mod Lines
+pub mod Name
+pub mod Number
+pub mod Parts
+pub mod Table
