@@ -1,0 +1,59 @@
+-- When a transfer is done.
+use Rattle.std.specs.Prelude.{◌≡◌, ℕ, ◌+◌, ◌<◌, ◌≤◌, ◌↔◌, List, [], ◌∷◌, Option, Some, None, Bool, true, false}
+use Rattle.gft_core.specs.declared.event.CoreEvent.{CoreEvent}
+use Rattle.gft_core.specs.declared.event.CoreEvent.TheVariants.{Eod, Eof, Lost, Fault, Abort, Fresh, Resume}
+use Rattle.gft_core.specs.Kept.{first, Booked}
+
+-- the events of the last transfer: those since the last Fresh or Resume
+abbrev pub since : List CoreEvent → List CoreEvent
+since [] = []
+since (Fresh ∷ older) = []
+since (Resume list ∷ older) = []
+since (e ∷ older) = e ∷ since older
+
+-- there is a Fresh or a Resume
+abbrev pub begun : List CoreEvent → Bool
+begun [] = false
+begun (Fresh ∷ older) = true
+begun (Resume list ∷ older) = true
+begun (e ∷ older) = begun older
+
+abbrev pub total_in : CoreEvent → Option ℕ
+total_in (Eof total) = Some total
+total_in e = None
+
+-- the total of the first Eof
+abbrev pub total : List CoreEvent → Option ℕ
+total [] = None
+total (e ∷ older) = first (total older) (total_in e)
+
+abbrev pub eods_in : CoreEvent → ℕ
+eods_in (Eod lane) = 1
+eods_in e = 0
+
+-- how many Eods there are
+abbrev pub eods : List CoreEvent → ℕ
+eods [] = 0
+eods (e ∷ older) = eods older + eods_in e
+
+-- an event that does not fail a transfer with n EODs: each Eof says n
+abbrev pub Passes : ℕ → CoreEvent → Type 0
+Passes n (Eof total) = total ≡ n
+Passes n Lost = ⊥
+Passes n Fault = ⊥
+Passes n Abort = ⊥
+Passes n e = Unit {0}
+
+abbrev pub AllPass : ℕ → List CoreEvent → Type 0
+AllPass n [] = Unit {0}
+AllPass n (e ∷ older) = AllPass n older × Passes n e
+
+-- the last transfer is done: it announced a total and has as many Eods, nothing failed it, and what is booked has no hole
+pub record Done (events : List CoreEvent) : Type 0 where
+  pub begun : begun events ≡ true
+  pub number : ℕ
+  pub total : total (since events) ≡ Some number
+  pub in_bounds : (1 ≤ number) × (number ≤ 1024)
+  pub met : eods (since events) ≡ number
+  pub passes : AllPass number (since events)
+  pub whole : (end : ℕ) × ((x : ℕ) → Booked events x ↔ (x < end))

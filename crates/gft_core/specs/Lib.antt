@@ -1,0 +1,5 @@
+pub mod Done
+pub mod Kept
+pub mod Laws
+pub mod Machine
+pub mod Progress

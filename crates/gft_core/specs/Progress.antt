@@ -1,0 +1,34 @@
+-- Where the last transfer stands, and the lists of events that leave it there.
+use Rattle.std.specs.Prelude.{◌≡◌, ℕ, ◌≤◌, List, Some, true, false}
+use Rattle.gft_eod.specs.Count.{Count, IsCount, IsMet}
+use Rattle.gft_core.specs.declared.event.CoreEvent.{CoreEvent}
+use Rattle.gft_core.specs.declared.progress.Progress.{Progress}
+use Rattle.gft_core.specs.declared.progress.Progress.TheVariants.{Idle, Counting, Failed}
+use Rattle.gft_core.specs.Kept.{first}
+use Rattle.gft_core.specs.Done.{since, begun, total, eods, AllPass}
+
+-- events that leave a transfer with n EODs unbroken
+pub record IsUnbroken (transfer : List CoreEvent) (n : ℕ) : Type 0 where
+  pub in_bounds : (1 ≤ n) × (n ≤ 1024)
+  pub at_most : eods transfer ≤ n
+  pub passes : AllPass n transfer
+
+-- events of a transfer that nothing failed so far, with this count of their EODs; n is the total, or any number where none is known
+pub record Counts (transfer : List CoreEvent) (count : Count) : Type 0 where
+  pub total : total transfer ≡ count.total
+  pub eods : eods transfer ≡ count.eods
+  pub passes : (n : ℕ) → first count.total (Some n) ≡ Some n → AllPass n transfer
+
+abbrev pub Tells : List CoreEvent → Progress → Type 0
+Tells events Idle = begun events ≡ false
+Tells events (Counting count) = (begun events ≡ true) × Counts (since events) count
+Tells events Failed = (n : ℕ) → ¬ IsUnbroken (since events) n
+
+abbrev pub IsSound : Progress → Type 0
+IsSound (Counting count) = IsCount count
+IsSound other = Unit {0}
+
+-- it runs, nothing failed it, and it has as many EODs as its total
+abbrev pub HasMet : Progress → Type 0
+HasMet (Counting count) = IsMet count
+HasMet other = ⊥

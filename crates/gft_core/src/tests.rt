@@ -1,0 +1,93 @@
+use super::*;
+use gft_base::LIMIT;
+use gft_range::{Range, RangeSet};
+use std::alloc::Global;
+use std::process::Abort;
+use std::test::Fail;
+
+/// An event of a row: `Hello` and `World` are blocks with these five bytes, at 0 and at 5.
+#[derive(Clone, Copy, Debug)]
+enum Told {
+    Fresh,
+    Hello,
+    World,
+    OpenHello,
+    Eof(u64),
+    Eod,
+    Lost,
+    Mark,
+    Resume,
+}
+
+fn block(alloc: Global, offset: u64, bytes: &[u8], unanswered: bool) -> Result<CoreEvent, Fail> {
+    let bytes = Octets::from_bytes(alloc, bytes)?;
+    Ok(CoreEvent::Block {
+        lane: 0,
+        channel: 5,
+        offset,
+        bytes,
+        unanswered,
+    })
+}
+
+fn event_of(alloc: Global, told: Told) -> Result<CoreEvent, Fail> {
+    let event = match told {
+        Told::Hello => return block(alloc, 0, b"hello", false),
+        Told::World => return block(alloc, 5, b"world", false),
+        Told::OpenHello => return block(alloc, 0, b"hello", true),
+        Told::Fresh => CoreEvent::Fresh,
+        Told::Eof(total) => CoreEvent::Eof { total },
+        Told::Eod => CoreEvent::Eod { lane: 0 },
+        Told::Lost => CoreEvent::Lost,
+        Told::Mark => CoreEvent::Mark,
+        Told::Resume => CoreEvent::Resume {
+            list: RangeSet::new(alloc),
+        },
+    };
+    Ok(event)
+}
+
+/// The machine after these events.
+fn machine_after(rt: &impl Abort, alloc: Global, told: &[Told]) -> Result<Core, Fail> {
+    let mut core = Core::new(alloc);
+    for &each in told {
+        let event = event_of(alloc, each)?;
+        if let CoreEvent::Block { offset, bytes, .. } = &event {
+            let count = bytes.bytes().len() as u64;
+            assert!(rt; *offset <= LIMIT && count <= LIMIT - *offset);
+        }
+        core.step(&event)?;
+    }
+    Ok(core)
+}
+
+#[test]
+fn rows_of_events(rt: HostRuntime) -> Result<(), Fail> {
+    use Told::{Eod, Eof, Fresh, Hello, Lost, Mark, OpenHello, Resume, World};
+    let first = Some(Range { start: 0, end: 5 });
+    let second = Some(Range { start: 5, end: 10 });
+    let both = Some(Range { start: 0, end: 10 });
+    let rows: [(&[Told], Option<Range>, bool); 9] = [
+        (&[Fresh, World, Hello, Eof(2), Eod, Eod], both, true),
+        (&[Fresh], None, false),
+        (&[Fresh, Hello, Lost, Eof(1), Eod], first, false),
+        (&[Fresh, World, Eof(1), Eod], second, false),
+        (&[Fresh, Eof(1), Eof(2), Eod], None, false),
+        (&[Fresh, Eof(1), Mark, Eod], None, true),
+        (
+            &[Fresh, Hello, Lost, Resume, World, Eof(1), Eod],
+            both,
+            true,
+        ),
+        (&[Fresh, Hello, Fresh, Eof(1), Eod], None, true),
+        (&[Fresh, OpenHello, Mark], None, false),
+    ];
+    for (told, booked, done) in rows {
+        let core = machine_after(&rt, rt.alloc(), told)?;
+        assert_eq!(rt; core.booked().nth(0), booked, "{told:?}");
+        assert_eq!(rt; core.booked().nth(1), None, "{told:?}");
+        assert_eq!(rt; core.is_done(), done, "{told:?}");
+    }
+    honest_law();
+    Ok(())
+}
