@@ -1,0 +1,139 @@
+ghost use Rattle.std.specs.Prelude.{◌≡◌, ℕ, ◌≤◌, List, [], ◌∷◌, length, drop, vec_len, IsErr, IsNone, IfOk, Err};
+ghost use Rattle.gft_reply.specs.ReplyStream.{Refused, replies};
+ghost use Rattle.gft_reply.specs.Replies.{Carries, Fails, HasFailed, to_come};
+
+use crate::reply::Reply;
+use crate::taking::{Stop, take_lines};
+use std::alloc::{AllocError, Global};
+use std::marker::Model;
+use std::mem;
+use thiserror::Error;
+
+/// A reader of the replies of a stream, which takes its bytes in any pieces.
+#[derive(Drop)]
+pub struct Replies {
+    /// The lines of the reply that has begun.
+    begun: Reply,
+    /// The bytes of the line that has begun.
+    bytes: Vec<u8>,
+    failed: bool,
+}
+
+impl Model for Replies {
+    ghost use Rattle.std.specs.Prelude.{◌<◌, length};
+    ghost use Rattle.gft_text.specs.Parts.{Lacks};
+    ghost use Rattle.gft_text.specs.declared.lines.TheConstants.{LINE_LIMIT};
+    ghost use Rattle.gft_reply.specs.Standing.{Standing};
+
+    ghost Value = { Standing };
+
+    ghost view = { λ r.
+        record { code = r.begun.code; lines = r.begun.lines; bytes = r.bytes.items; failed = r.failed } };
+
+    ghost invariant = { λ r. Lacks 10 r.bytes.items × (length r.bytes.items < LINE_LIMIT) };
+}
+
+/// How many bytes a feed took, and the reply that the last of them ended.
+#[derive(Debug, Drop)]
+pub struct Got {
+    pub used: usize,
+    pub reply: Option<Reply>,
+}
+
+/// Why bytes of a stream gave no reply.
+#[derive(Clone, Copy, Debug, PartialEq, Eq, Error)]
+pub enum ReplyError {
+    /// A reply begins with none of the two forms, a line has `LINE_LIMIT` bytes, or a reply
+    /// `LINE_COUNT_LIMIT` lines.
+    #[error("bad reply")]
+    BadReply,
+    /// Memory was refused; nothing was taken.
+    #[error("out of memory")]
+    OutOfMemory,
+}
+
+impl From<AllocError> for ReplyError {
+    ghost use Rattle.gft_reply.specs.declared.replies.ReplyError.TheVariants as errors;
+
+    ghost from_gives = { λ _ e. e ≡ errors.OutOfMemory };
+
+    fn from(_refused: AllocError) -> ReplyError {
+        ReplyError::OutOfMemory
+    }
+}
+
+impl Replies {
+    /// A reader before the first byte. It allocates nothing.
+    pub fn new(alloc: Global) -> Self
+        ensures to_come { (stream : List ℕ) → to_come result stream ≡ replies stream }
+        ensures not_failed { ¬ HasFailed result }
+    {
+        Replies {
+            begun: Reply::nothing(alloc),
+            bytes: Vec::new(alloc),
+            failed: false,
+        }
+    }
+
+    /// Takes bytes until a reply is whole (RFC 959, section 4.2), or all where none is; hand in what
+    /// is left.
+    ///
+    /// `BadReply` where a line stands that can't be there, a line has `LINE_LIMIT` bytes, or a reply
+    /// `LINE_COUNT_LIMIT` lines; from then on each feed answers it. `OutOfMemory` leaves the reader
+    /// as it was.
+    pub fn feed(&mut self, piece: &[u8]) -> Result<Got, ReplyError>
+        ensures carried { IfOk result (λ got. Carries self.old piece.now got self.new) }
+        ensures whole { IfOk result (λ got. IsNone got.reply → got.used ≡ length piece.now) }
+        ensures bad { result ≡ Err ReplyError.BadReply → Fails self.old piece.now self.new }
+
+        // A line that can't stand there, and that comes before a reply, is refused.
+        ensures refused { to_come self.old piece.now ≡ Refused ∷ [] → IsErr result }
+        ensures again { HasFailed self.old →
+            (result ≡ Err ReplyError.BadReply) × (self.new ≡ self.old) }
+
+        ensures memory { result ≡ Err ReplyError.OutOfMemory → self.new ≡ self.old }
+    {
+        if self.failed {
+            return Err(ReplyError::BadReply);
+        }
+        let (held, code, count) = (self.bytes.len(), self.begun.code, self.begun.lines.count());
+        self.bytes.extend_from_slice(piece)?;
+        match take_lines(&mut self.begun, &self.bytes) {
+            Ok(Stop::Open { left }) => {
+                drop_front(&mut self.bytes, held + piece.len() - left);
+                Ok(Got {
+                    used: piece.len(),
+                    reply: None,
+                })
+            }
+            Ok(Stop::Ended { left }) => {
+                let next = Reply::nothing(*self.bytes.allocator());
+                let reply = mem::replace(&mut self.begun, next);
+                self.bytes.clear();
+                Ok(Got {
+                    used: piece.len() - left,
+                    reply: Some(reply),
+                })
+            }
+            Ok(Stop::Refused) => {
+                self.bytes.clear();
+                self.failed = true;
+                Err(ReplyError::BadReply)
+            }
+            Err(_) => {
+                self.bytes.truncate(held);
+                self.begun.code = code;
+                self.begun.lines.truncate(count);
+                Err(ReplyError::OutOfMemory)
+            }
+        }
+    }
+}
+
+/// Leaves what stands behind the first `count` bytes.
+fn drop_front(bytes: &mut Vec<u8>, count: usize)
+    requires { count ≤ vec_len bytes.old }
+    ensures { bytes.new.items ≡ drop count bytes.old.items }
+{
+    bytes.drain(..count);
+}
