@@ -128,14 +128,20 @@ fn bad_blocks_are_refused_by_their_flags_and_place(rt: HostRuntime) {
     }
 }
 
-#[test]
-fn a_stream_may_be_cut_at_every_byte(rt: HostRuntime) {
-    let mut channel = Channel::new(100);
-    let mut stream = ArrayVec::<u8, 56>::new();
+/// The blocks of one channel: five bytes, the count of EODs, the end.
+fn hello_stream() -> ArrayVec<u8, 56> {
+    let mut stream = ArrayVec::new();
     let _ = stream.try_extend_from_slice(&header_bytes(0, 5, 0));
     let _ = stream.try_extend_from_slice(b"hello");
     let _ = stream.try_extend_from_slice(&header_bytes(64, 0, 1));
     let _ = stream.try_extend_from_slice(&header_bytes(12, 0, 0));
+    stream
+}
+
+#[test]
+fn a_stream_may_be_cut_at_every_byte(rt: HostRuntime) {
+    let mut channel = Channel::new(100);
+    let stream = hello_stream();
     assert_eq!(rt; stream.len(), 56);
     let mut told = Vec::new(rt.alloc());
     for piece in stream.chunks(1) {

@@ -42,6 +42,21 @@ fn is_list(rt: &impl Abort, set: &RangeSet, list: &[Range]) {
     }
 }
 
+/// Asserts that the drive was called so, each time for the bytes.
+fn are_calls(rt: &impl Abort, drive: &MemoryDrive, calls: &[(CallKind, u64, u64)]) {
+    assert_eq!(rt; drive.count(), calls.len());
+    for (i, &(call, at, len)) in calls.iter().enumerate() {
+        let part = Part::Bytes;
+        let want = DriveCall {
+            call,
+            part,
+            at,
+            len,
+        };
+        assert_eq!(rt; drive.call(i), Some(want), "at {i}");
+    }
+}
+
 #[test]
 fn only_what_is_missing_is_written(rt: HostRuntime) -> Result<(), Fail> {
     let mut keep = keep_of(rt.alloc(), b"", &[])?;
@@ -75,17 +90,7 @@ fn only_what_is_missing_is_written(rt: HostRuntime) -> Result<(), Fail> {
         (CallKind::Cut, 0, 6),
         (CallKind::Sync, 0, 0),
     ];
-    assert_eq!(rt; drive.count(), calls.len());
-    for (i, &(call, at, len)) in calls.iter().enumerate() {
-        let part = Part::Bytes;
-        let want = DriveCall {
-            call,
-            part,
-            at,
-            len,
-        };
-        assert_eq!(rt; drive.call(i), Some(want), "at {i}");
-    }
+    are_calls(&rt, &drive, &calls);
     Ok(())
 }
 
