@@ -34,13 +34,13 @@ IsFile source before after = after ≡ source
 abbrev pub IsPut : Status → List ℕ → Status → Option (List ℕ) → Option (List ℕ) → ℕ → ℕ → Type 0
 IsPut own line result before after faults risen = ((result ≡ own) × Appends before after line) ⊎ ((result ≡ status.PutFailed) × Rose faults risen)
 
--- what is printed for an outcome: its line; where memory for the line is refused, the line of that; where the put fails, a part
+-- what is printed for an outcome: its line; where memory for the line is refused, the line of that; where the put fails, the count of faults rose
 abbrev pub IsTold : Outcome → Status → Option (List ℕ) → Option (List ℕ) → ℕ → ℕ → Type 0
 IsTold ending status.PutFailed before after faults risen = Rose faults risen
 IsTold ending status.OutOfMemory before after faults risen = Appends before after out_of_memory_text
 IsTold ending own before after faults risen = (own ≡ status_of ending) × Appends before after (text_of ending)
 
--- the outcomes that are refused by a 426 line
+-- the outcomes that are refused by a 426 or a 452 line
 abbrev pub IsRefusal : Outcome → Type 0
 IsRefusal (outcome.Lost taken) = Unit {0}
 IsRefusal (outcome.Hole total number missing) = Unit {0}
