@@ -1,6 +1,6 @@
 -- What lines do to the reply that has begun.
 use Rattle.std.specs.Prelude.{◌≡◌, ℕ, ◌<◌, List, [], ◌∷◌, ◌++◌, length}
-use Rattle.gft_text.specs.Parts.{Lacks}
+use Rattle.gft_base.specs.Parts.{Lacks}
 use Rattle.gft_text.specs.LineStream.{told}
 use Rattle.gft_text.specs.declared.lines.TheConstants.{LINE_LIMIT}
 use Rattle.gft_reply.specs.declared.reply.Reply.{Reply}

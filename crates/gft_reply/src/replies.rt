@@ -21,7 +21,7 @@ pub struct Replies {
 
 impl Model for Replies {
     ghost use Rattle.std.specs.Prelude.{◌<◌, length};
-    ghost use Rattle.gft_text.specs.Parts.{Lacks};
+    ghost use Rattle.gft_base.specs.Parts.{Lacks};
     ghost use Rattle.gft_text.specs.declared.lines.TheConstants.{LINE_LIMIT};
     ghost use Rattle.gft_reply.specs.Standing.{Standing};
 

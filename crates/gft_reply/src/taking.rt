@@ -5,8 +5,8 @@ ghost use Rattle.gft_reply.specs.Taking.{Grows, Stops, heard_behind};
 
 use crate::part::{part_of, without_return};
 use crate::reply::{LINE_COUNT_LIMIT, Reply};
-use gft_base::OutOfMemory;
-use gft_text::{LINE_LIMIT, split_first};
+use gft_base::{OutOfMemory, split_first};
+use gft_text::LINE_LIMIT;
 
 /// What a line did to the reply that has begun.
 #[derive(Clone, Copy)]

@@ -1,12 +1,12 @@
 ghost use Rattle.std.specs.Prelude.{◌≡◌, ◌≤◌, ◌<◌, ◌+◌, ◌++◌, ◌∷◌, ◌↔◌, [], ℕ, List, length, true, IsTrue, IfOk, OnOk};
 ghost use Rattle.std.specs.List.{AllByRecursion};
-ghost use Rattle.gft_text.specs.Parts.{Lacks};
+ghost use Rattle.gft_base.specs.Parts.{Lacks};
 ghost use Rattle.gft_reply.specs.ReplyStream.{Replied, replies};
 ghost use Rattle.gft_reply.specs.Written.{Fits, IsWritable, code_text, front_of, reply_text, spelled, written_line, written_lines};
 
 use crate::reply::{LINE_COUNT_LIMIT, Reply};
-use gft_base::OutOfMemory;
-use gft_text::{LINE_LIMIT, Words, split_first};
+use gft_base::{OutOfMemory, split_first};
+use gft_text::{LINE_LIMIT, Words};
 use std::alloc::Global;
 
 impl Reply {

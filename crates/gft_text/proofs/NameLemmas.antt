@@ -2,7 +2,7 @@
 use Rattle.std.proofs.Common.{◌≡◌, ℕ, ◌<◌, Bool, true, false, not, cond, eqb, ltb, List, length, get_or, Option, Some, None, [], ◌∷◌, refl, sym, ap, ◌∙◌, arith}
 use Rattle.std.specs.Option.{option_or}
 use Rattle.std.proofs.lemmas.Bool.{ltb-false, le-ltb, ne_eqb, eqb-false, not-false}
-use Rattle.gft_text.proofs.PartsLemmas.{position-None, position-none_from}
+use Rattle.gft_base.proofs.PartsLemmas.{position-None, position-none_from}
 use Rattle.gft_text.specs.Name.{IsName, WritesName, fault_of, bad_byte, is_name_byte}
 
 first_none : {A : Type 0} (o p : Option A) → option_or o p ≡ None → (o ≡ None) × (p ≡ None)

@@ -2,6 +2,4 @@ pub mod HostPort
 pub mod LineStream
 pub mod Lines
 pub mod Name
-pub mod Number
-pub mod Parts
 pub mod Table

@@ -1,12 +1,11 @@
 ghost use Rattle.std.specs.Prelude.{◌≡◌, List, ℕ, MatchOption, length, IfOk, OnErr};
 ghost use Rattle.std.specs.List.{AllZip};
-ghost use Rattle.gft_text.specs.Parts.{parts_at};
+ghost use Rattle.gft_base.specs.Parts.{parts_at};
 ghost use Rattle.gft_text.specs.HostPort.{IsHostPort, IsByte, host_port_text};
 ghost use Rattle.gft_text.specs.declared.host_port.HostPort.{HostPort};
 
 use crate::number::{BadNumber, read_number};
-use crate::parts::split_first;
-use gft_base::OutOfMemory;
+use gft_base::{OutOfMemory, split_first};
 use std::alloc::Global;
 
 /// An IPv4 address, its first number first, and a port.

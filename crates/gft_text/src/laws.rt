@@ -2,8 +2,8 @@
 
 ghost use Rattle.std.specs.Prelude.{◌≡◌, ℕ, ◌<◌, ◌≤◌, ◌^◌, List, [], ◌∷◌, ◌++◌, length, decimal, None};
 ghost use Rattle.std.specs.Str.Lines.{strip_carriage_return};
-ghost use Rattle.gft_text.specs.Parts.{Lacks};
-ghost use Rattle.gft_text.specs.Number.{IsNumber};
+ghost use Rattle.gft_base.specs.Parts.{Lacks};
+ghost use Rattle.gft_base.specs.Number.{IsNumber};
 ghost use Rattle.gft_text.specs.Name.{IsName, WritesName, fault_of};
 ghost use Rattle.gft_text.specs.HostPort.{IsHostPort, FitsHostPort, host_port_text};
 ghost use Rattle.gft_text.specs.LineStream.{Line, Overlong, told};

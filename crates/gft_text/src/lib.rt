@@ -11,7 +11,6 @@ mod laws;
 mod lines;
 mod name;
 mod number;
-mod parts;
 mod table;
 #[cfg(test)]
 mod tests;
@@ -25,6 +24,5 @@ pub use laws::{
 pub use lines::{Fed, LINE_LIMIT, LineError, Lines};
 pub use name::{Name, NameError, read_name};
 pub use number::{BadNumber, read_number};
-pub use parts::split_first;
 pub use table::{Entry, Table};
 pub use words::Words;

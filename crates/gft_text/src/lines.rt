@@ -1,9 +1,9 @@
 ghost use Rattle.std.specs.Prelude.{◌≡◌, ℕ, ◌<◌, ◌≤◌, ◌+◌, [], ◌∷◌, ◌++◌, List, length, take, false, IsTrue, IsErr, vec_len, IfOk, OnOk, OnErr, Err};
-ghost use Rattle.gft_text.specs.Parts.{Lacks};
+ghost use Rattle.gft_base.specs.Parts.{Lacks};
 ghost use Rattle.gft_text.specs.LineStream.{told};
 ghost use Rattle.gft_text.specs.Lines.{Carries, Feeds, IsFront, IsOverlong, Overruns, begun, shown, to_come};
 
-use crate::parts::find_byte;
+use gft_base::find_byte;
 use std::alloc::{AllocError, Global};
 use std::marker::Model;
 use thiserror::Error;
@@ -24,7 +24,7 @@ pub struct Lines {
 
 impl Model for Lines {
     ghost use Rattle.std.specs.Prelude.{◌≡◌, ◌<◌, ◌≤◌, true, length};
-    ghost use Rattle.gft_text.specs.Parts.{Lacks};
+    ghost use Rattle.gft_base.specs.Parts.{Lacks};
     ghost use Rattle.gft_text.specs.Lines.{Held};
     ghost use Rattle.gft_text.specs.declared.lines.TheConstants.{LINE_LIMIT};
 
