@@ -1,5 +1,5 @@
 -- What honest blocks leave is what was sent.
-use Rattle.std.proofs.Common.{◌≡◌, ℕ, zero, suc, ◌<◌, ◌≤◌, List, [], ◌∷◌, length, Some, None, refl, sym, ◌∙◌, ⊎_elim, arith}
+use Rattle.std.proofs.Common.{◌≡◌, ℕ, zero, suc, ◌<◌, ◌≤◌, List, [], ◌∷◌, length, Some, None, refl, sym, ◌∙◌, inl, inr, ⊎_elim, arith}
 use Rattle.std.specs.Prelude.{Option, slice_get}
 use Rattle.std.proofs.lemmas.Option.{none-some}
 use Rattle.gft_core.specs.declared.event.CoreEvent.{CoreEvent}
@@ -24,6 +24,12 @@ booked_where_sent (e ∷ older) x h =
     (λ p. let b = booked_where_sent older x p in (b.0, first_front (earliest older x) (answered e x) b.0 b.1))
     (λ p. first_back (earliest older x) (answered e x) p.0 p.1)
     h
+
+-- what is kept was sent
+pub sent_where_booked : (events : List CoreEvent) (x v : ℕ) → earliest events x ≡ Some v → OneHas x events
+sent_where_booked [] x v k = absurd (none-some v k)
+sent_where_booked (e ∷ older) x v k =
+    ⊎_elim (λ p. inl (sent_where_booked older x v p)) (λ p. inr (v, p)) (first_either (earliest older x) (answered e x) v k)
 
 pub honest : HonestLaw
 honest source events is_honest done x =

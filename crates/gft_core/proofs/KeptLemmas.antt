@@ -1,18 +1,20 @@
 -- Which offsets a block books.
-use Rattle.std.proofs.Common.{◌≡◌, ◌≢◌, ◌⊎◌, ℕ, ◌+◌, ◌<◌, ◌≤◌, ◌↔◌, List, [], ◌∷◌, length, Some, Bool, false, sym, ap, ◌∙◌, inl, inr, ⊎_elim, eq-eqb, ne_eqb, arith}
-use Rattle.std.specs.Prelude.{if◌then◌else◌}
+use Rattle.std.proofs.Common.{◌≡◌, ◌≢◌, ◌⊎◌, ℕ, zero, suc, ◌+◌, ◌<◌, ◌≤◌, ◌↔◌, List, [], ◌∷◌, ◌++◌, length, Some, None, Bool, false, refl, sym, ap, ◌∙◌, inl, inr, ⊎_elim, eq-eqb, ne_eqb, arith}
+use Rattle.std.specs.Prelude.{if◌then◌else◌, slice_get}
 use Rattle.std.proofs.lemmas.Option.{none-some}
 use mathlib.Core.Logic.{dite}
 use native.Mathlib.Decide.{ℕ_discrete}
 use Rattle.gft_core.specs.declared.event.CoreEvent.{CoreEvent}
 use Rattle.gft_core.specs.declared.event.CoreEvent.TheVariants.{Block}
-use Rattle.gft_core.specs.Kept.{byte_at, kept, Booked}
-use Rattle.gft_core.proofs.OptionLemmas.{first_front, first_back, first_either}
+use Rattle.gft_core.specs.declared.taken.TakenBlock.{TakenBlock}
+use Rattle.gft_core.specs.Kept.{first, byte_at, kept, Booked}
+use Rattle.gft_core.specs.Machine.{byte_of}
+use Rattle.gft_core.proofs.OptionLemmas.{first-none, first-assoc, first_front, first_back, first_either}
 
-byte_at-here : (offset b : ℕ) (bs : List ℕ) (x : ℕ) → x ≡ offset → byte_at offset (b ∷ bs) x ≡ Some b
+pub byte_at-here : (offset b : ℕ) (bs : List ℕ) (x : ℕ) → x ≡ offset → byte_at offset (b ∷ bs) x ≡ Some b
 byte_at-here offset b bs x e = ap (λ (c : Bool). if c then Some b else byte_at (offset + 1) bs x) (eq-eqb x offset e)
 
-byte_at-later : (offset b : ℕ) (bs : List ℕ) (x : ℕ) → x ≢ offset → byte_at offset (b ∷ bs) x ≡ byte_at (offset + 1) bs x
+pub byte_at-later : (offset b : ℕ) (bs : List ℕ) (x : ℕ) → x ≢ offset → byte_at offset (b ∷ bs) x ≡ byte_at (offset + 1) bs x
 byte_at-later offset b bs x ne = ap (λ (c : Bool). if c then Some b else byte_at (offset + 1) bs x) (ne_eqb x offset ne)
 
 pub byte_within : (offset : ℕ) (bytes : List ℕ) (x : ℕ) → offset ≤ x → x < offset + length bytes → (v : ℕ) × (byte_at offset bytes x ≡ Some v)
@@ -39,3 +41,25 @@ Booked-block lane channel offset bytes events x = (
       (λ within. let byte = byte_within offset bytes x within.0 within.1 in first_back (kept events x) (byte_at offset bytes x) byte.0 byte.1)
       either,
 )
+
+-- ---- the byte of one block
+
+pub byte_at-below : (offset : ℕ) (bytes : List ℕ) (x : ℕ) → x < offset → byte_at offset bytes x ≡ None
+byte_at-below offset [] x lt = refl
+byte_at-below offset (b ∷ bs) x lt = byte_at-later offset b bs x (λ e. omega arith) ∙ byte_at-below (offset + 1) bs x (omega arith)
+
+pub byte_at-get : (offset place : ℕ) (bytes : List ℕ) → byte_at offset bytes (offset + place) ≡ slice_get bytes place
+byte_at-get offset place [] = refl
+byte_at-get offset zero (b ∷ bs) = byte_at-here offset b bs (offset + 0) (omega arith)
+byte_at-get offset (suc place) (b ∷ bs) =
+    byte_at-later offset b bs (offset + suc place) (λ e. omega arith)
+    ∙ (let same : offset + suc place ≡ (offset + 1) + place = omega arith in ap (byte_at (offset + 1) bs) same)
+    ∙ byte_at-get (offset + 1) place bs
+
+-- ---- the byte of a list of blocks
+
+pub byte_of-push : (blocks : List TakenBlock) (block : TakenBlock) (x : ℕ) → byte_of (blocks ++ block ∷ []) x ≡ first (byte_of blocks x) (byte_at block.offset block.bytes x)
+byte_of-push [] block x = first-none (byte_at block.offset block.bytes x)
+byte_of-push (b ∷ bs) block x =
+    ap (first (byte_at b.offset b.bytes x)) (byte_of-push bs block x)
+    ∙ sym (first-assoc (byte_at b.offset b.bytes x) (byte_of bs x) (byte_at block.offset block.bytes x))

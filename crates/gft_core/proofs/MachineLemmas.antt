@@ -1,16 +1,17 @@
 -- What one event more books, and when the machine is done.
-use Rattle.std.proofs.Common.{◌≡◌, ◌⊎◌, ℕ, ◌+◌, ◌-◌, ◌<◌, ◌≤◌, ◌↔◌, List, ◌∷◌, length, Ok, Err, Some, None, Bool, true, false, true≢false, sym, inl, inr, ⊎_elim, is_err, arith}
-use Rattle.std.specs.Prelude.{Result, IsTrue, OnOk, IfErr}
+use Rattle.std.proofs.Common.{◌≡◌, ◌⊎◌, ℕ, ◌+◌, ◌-◌, ◌<◌, ◌≤◌, ◌↔◌, List, [], ◌∷◌, ◌++◌, length, Ok, Err, Some, None, Bool, true, false, true≢false, refl, sym, ap, ◌∙◌, inl, inr, ⊎_elim, is_err, arith}
+use Rattle.std.specs.Prelude.{Option, Result, IsTrue, OnOk, IfErr}
 use Rattle.gft_range.specs.declared.range.Range.{Range}
 use Rattle.gft_range.specs.Range.{InRange, HasOffset}
 use Rattle.gft_core.specs.declared.event.CoreEvent.{CoreEvent}
 use Rattle.gft_core.specs.declared.event.CoreEvent.TheVariants.{Block}
-use Rattle.gft_core.specs.Kept.{first, kept, Booked}
+use Rattle.gft_core.specs.declared.taken.TakenBlock.{TakenBlock}
+use Rattle.gft_core.specs.Kept.{first, byte_at, kept, Booked}
 use Rattle.gft_core.specs.Done.{Done}
-use Rattle.gft_core.specs.Machine.{State, Stands}
+use Rattle.gft_core.specs.Machine.{State, Stands, byte_of}
 use Rattle.gft_core.specs.Progress.{IsSound, HasMet}
-use Rattle.gft_core.proofs.OptionLemmas.{has-first_none}
-use Rattle.gft_core.proofs.KeptLemmas.{Booked-block}
+use Rattle.gft_core.proofs.OptionLemmas.{first-none, has-first_none}
+use Rattle.gft_core.proofs.KeptLemmas.{Booked-block, byte_of-push}
 use Rattle.gft_core.proofs.ProgressLemmas.{done_where_met}
 
 pub on_ok : {A E : Type 0} → (r : Result A E) (P Q : Type 0) → (P → Q) → OnOk r P → OnOk r Q
@@ -30,6 +31,24 @@ pub still_booked : (events : List CoreEvent) (ranges : List Range) → ((x : ℕ
     → (x : ℕ) → HasOffset ranges x ↔ ((v : ℕ) × (first (kept events x) None ≡ Some v))
 still_booked events ranges same x =
     let none = has-first_none (kept events x) in (λ h. none.0 ((same x).0 h), λ b. (same x).1 (none.1 b))
+
+-- what brings no byte leaves the bytes as they are
+pub still_kept : (now old : Option ℕ) → now ≡ old → now ≡ first old None
+still_kept now old same = same ∙ sym (first-none old)
+
+pub empty_kept : (offset : ℕ) (bytes : List ℕ) (x : ℕ) → offset ≡ offset + length bytes → (now old : Option ℕ) → now ≡ old → now ≡ first old (byte_at offset bytes x)
+empty_kept offset [] x none now old same = still_kept now old same
+empty_kept offset (b ∷ bs) x none now old same = absurd (omega (arith, none))
+
+-- a block that is taken last
+pub block_kept : (lane channel offset : ℕ) (bytes : List ℕ) (events : List CoreEvent) (blocks : List TakenBlock) (block : TakenBlock)
+    → block.offset ≡ offset → block.bytes ≡ bytes
+    → ((x : ℕ) → byte_of blocks x ≡ kept events x)
+    → (x : ℕ) → byte_of (blocks ++ block ∷ []) x ≡ kept (Block lane channel offset bytes false ∷ events) x
+block_kept lane channel offset bytes events blocks block at carried same x =
+    byte_of-push blocks block x
+    ∙ ap (λ o. first o (byte_at block.offset block.bytes x)) (same x)
+    ∙ rw (at, carried) refl
 
 -- an answered block adds its offsets
 pub block_booked : (lane channel offset : ℕ) (bytes : List ℕ) (events : List CoreEvent) (old new : List Range)

@@ -8,6 +8,10 @@ pub first-none : (a : Option ℕ) → first a None ≡ a
 first-none (Some v) = refl
 first-none None = refl
 
+pub first-assoc : (a b c : Option ℕ) → first (first a b) c ≡ first a (first b c)
+first-assoc (Some v) b c = refl
+first-assoc None b c = refl
+
 pub first_front : (a b : Option ℕ) (v : ℕ) → a ≡ Some v → first a b ≡ Some v
 first_front a b v e = ap (λ o. first o b) e
 

@@ -32,18 +32,18 @@ abbrev pub EndsInLimit : CoreEvent → Type 0
 EndsInLimit (Block lane channel offset bytes unanswered) = offset + length bytes ≤ LIMIT
 EndsInLimit e = Unit {0}
 
--- the last generation: the events since the last Fresh
+-- the last generation: the events since the last Fresh, and that Fresh
 abbrev pub generation : List CoreEvent → List CoreEvent
 generation [] = []
-generation (Fresh ∷ older) = []
+generation (Fresh ∷ older) = Fresh ∷ []
 generation (e ∷ older) = e ∷ generation older
 
--- the byte at x of the earliest answered block
+-- the byte at x of the earliest answered block that has one
 abbrev pub earliest : List CoreEvent → ℕ → Option ℕ
 earliest [] x = None
 earliest (e ∷ older) x = first (earliest older x) (answered e x)
 
--- the kept byte at x
+-- the kept byte at x: that of the earliest answered block of the last generation
 abbrev pub kept : List CoreEvent → ℕ → Option ℕ
 kept events x = earliest (generation events) x
 

@@ -1,5 +1,5 @@
-//! The plain machine over the events of one name: what a list of events leaves booked, and when its
-//! transfer is done, with no file, no lock and no thread.
+//! The plain machine over the events of one name: which bytes a list of events leaves kept, and when
+//! its transfer is done, with no file, no lock and no thread.
 //!
 //! Begin with [`CoreEvent`] and [`Core::step`]. [`honest_law`] says what a transfer that is done
 //! has kept of what was sent. Blocks, EOFs and EODs are those of extended block mode (GFD.20).
@@ -10,6 +10,7 @@ mod laws;
 mod machine;
 mod octets;
 mod progress;
+mod taken;
 #[cfg(test)]
 mod tests;
 

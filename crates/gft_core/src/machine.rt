@@ -4,22 +4,25 @@ ghost use Rattle.gft_range.specs.Normal.{IsNormal};
 ghost use Rattle.gft_range.specs.Range.{HasOffset};
 ghost use Rattle.gft_core.specs.declared.event.CoreEvent.{CoreEvent};
 ghost use Rattle.gft_core.specs.declared.event.CoreEvent.TheVariants.{Block};
-ghost use Rattle.gft_core.specs.Kept.{Booked, EndsInLimit};
+ghost use Rattle.gft_core.specs.Kept.{kept, Booked, EndsInLimit};
 ghost use Rattle.gft_core.specs.Done.{Done};
 ghost use Rattle.gft_core.specs.Machine.{Stands};
 
 use crate::event::CoreEvent;
 use crate::octets::Octets;
 use crate::progress::Progress;
+use crate::taken::TakenBlock;
 use gft_base::OutOfMemory;
 use gft_range::{Range, RangeSet};
 use std::alloc::Global;
 use std::marker::Model;
 
-/// The plain machine. It keeps which offsets are booked, and no bytes. Contracts see its state, and
-/// the lists of events, the newest first, for which it `Stands`.
+/// The plain machine. It keeps the blocks of this generation in a list, in the order in which they
+/// came. Contracts see its state, and the lists of events, the newest first, for which it `Stands`.
 #[derive(Drop)]
 pub struct Core {
+    blocks: Vec<TakenBlock>,
+    /// The offsets of those blocks.
     booked: RangeSet,
     progress: Progress,
 }
@@ -30,7 +33,7 @@ impl Model for Core {
 
     ghost Value = { State };
 
-    ghost view = { λ c. record { booked = c.booked; progress = c.progress } };
+    ghost view = { λ c. record { blocks = c.blocks.items; booked = c.booked; progress = c.progress } };
 
     ghost invariant = { λ c. IsNormal c.booked.ranges };
 }
@@ -41,6 +44,7 @@ impl Core {
         ensures stands { Stands [] result }
     {
         Core {
+            blocks: Vec::new(alloc),
             booked: RangeSet::new(alloc),
             progress: Progress::Idle,
         }
@@ -72,6 +76,7 @@ impl Core {
             }
             CoreEvent::Mark => {}
             CoreEvent::Fresh => {
+                self.blocks.clear();
                 self.booked.clear();
                 self.progress = Progress::begin();
             }
@@ -90,6 +95,22 @@ impl Core {
         &self.booked
     }
 
+    /// The kept byte at an offset, where there is one: that of the earliest block which has it.
+    pub fn kept_byte(&self, offset: u64) -> Option<u8>
+        ensures byte { (events : List CoreEvent) → Stands events self.now →
+            result ≡ kept events offset }
+    {
+        let mut later = self.blocks.as_slice();
+        while let Some((block, rest)) = later.split_first() {
+            let byte = block.byte_at(offset);
+            if byte.is_some() {
+                return byte;
+            }
+            later = rest;
+        }
+        None
+    }
+
     /// Whether the last transfer is done: it has as many EODs as its total, nothing failed it, and
     /// what is booked has no hole.
     pub fn is_done(&self) -> bool
@@ -103,7 +124,7 @@ impl Core {
         self.progress.is_met() && self.booked.covers(whole)
     }
 
-    /// Books the offsets of an answered block.
+    /// Takes an answered block.
     fn book(&mut self, offset: u64, bytes: &Octets) -> Result<(), OutOfMemory>
         requires in_limit { offset + length bytes.now ≤ LIMIT }
         ensures stands { OnOk result ((lane channel : ℕ) (events : List CoreEvent) →
@@ -115,7 +136,11 @@ impl Core {
         if offset == end {
             return Ok(());
         }
+        let block = TakenBlock::copy_of(offset, bytes)?;
+        // The room comes first, so that a refusal changes nothing.
+        self.blocks.reserve(1)?;
         self.booked.reserve(1)?;
+        self.blocks.push(block)?;
         self.booked.insert(Range { start: offset, end });
         Ok(())
     }

@@ -1,9 +1,12 @@
 -- A name has no fault, and what has no fault is a name.
-use Rattle.std.proofs.Common.{◌≡◌, ℕ, ◌<◌, Bool, true, false, not, cond, eqb, ltb, List, length, get_or, Option, Some, None, [], ◌∷◌, refl, sym, ap, ◌∙◌, arith}
+use Rattle.std.proofs.Common.{◌≡◌, ℕ, ◌<◌, Bool, true, false, not, cond, eqb, ltb, List, length, get_or, Option, Some, None, [], ◌∷◌, refl, sym, ap, ◌∙◌, subst, arith, Ok, Err}
+use Rattle.std.specs.Prelude.{Result, IsErrAnd, IfErr}
 use Rattle.std.specs.Option.{option_or}
 use Rattle.std.proofs.lemmas.Bool.{ltb-false, le-ltb, ne_eqb, eqb-false, not-false}
 use Rattle.gft_base.proofs.PartsLemmas.{position-None, position-none_from}
-use Rattle.gft_text.specs.Name.{IsName, WritesName, fault_of, bad_byte, is_name_byte}
+use Rattle.gft_text.specs.declared.name.NameError.{NameError}
+use Rattle.gft_text.specs.declared.name.NameError.TheVariants.{OutOfMemory}
+use Rattle.gft_text.specs.Name.{IsName, Refuses, WritesName, fault_of, bad_byte, is_name_byte}
 
 first_none : {A : Type 0} (o p : Option A) → option_or o p ≡ None → (o ≡ None) × (p ≡ None)
 first_none None p e = (refl, e)
@@ -52,3 +55,8 @@ written (b ∷ bs) is =
 -- a text is one name at most
 pub one : (text a b : List ℕ) → WritesName text a → WritesName text b → a ≡ b
 one text a b of_a of_b = of_a.written ∙ sym of_b.written
+
+-- where memory is refused, it was asked for a name
+pub refuses_memory : {A : Type 0} (name : List ℕ) (r : Result A NameError) → IsName name → IsErrAnd r (λ e. e ≡ OutOfMemory) → IfErr r (Refuses name)
+refuses_memory name (Ok value) legal is = tt
+refuses_memory name (Err error) legal is = subst (Refuses name) (sym is) legal

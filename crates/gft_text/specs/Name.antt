@@ -45,7 +45,7 @@ fault_of name = option_or (bad_byte name) (
     else if ends_with nat_eq name own_ending then Some (length name - 4)
     else None)
 
--- a refusal is that of the first fault; want of memory says nothing of the name
+-- a refusal is that of the first fault; memory is asked for a name alone
 abbrev pub Refuses : List ℕ → NameError → Type 0
 Refuses name (BadName at) = (fault_of name ≡ Some at) × ¬ IsName name
-Refuses name OutOfMemory = Unit {0}
+Refuses name OutOfMemory = IsName name

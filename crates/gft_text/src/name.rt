@@ -73,7 +73,7 @@ impl Name {
 ///
 /// `BadName` where the rest is no name, with a place in it, by the first of these that it breaks:
 /// the first byte that no name has; 0 for an empty name or a leading `.`; 200 for a longer one; the
-/// place of an ending `.gfr`.
+/// place of an ending `.gfr`. `OutOfMemory`, which a name alone can give, when it can't be copied.
 pub fn read_name(alloc: Global, text: &[u8]) -> Result<Name, NameError>
     ensures name { IfOk result (WritesName text.now) }
     ensures refused { IfErr result (Refuses (without_slash text.now)) }

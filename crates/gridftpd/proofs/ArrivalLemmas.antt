@@ -1,9 +1,7 @@
 -- Lists of arrivals, one behind another.
-use Rattle.std.proofs.Common.{◌≡◌, ◌≢◌, ℕ, zero, suc, ◌+◌, ◌<◌, ◌≤◌, ◌⊎◌, ◌↔◌, List, [], ◌∷◌, ◌++◌, length, Some, refl, ap, arith, inl, inr}
-use Rattle.std.specs.Prelude.{slice_index}
-use Rattle.std.proofs.lemmas.Bool.{cases_lt, cases_order, eq-eqb, ne_eqb}
+use Rattle.std.proofs.Common.{◌≡◌, ℕ, ◌+◌, ◌<◌, ◌≤◌, ◌⊎◌, ◌↔◌, List, [], ◌∷◌, ◌++◌, length, refl, ap, arith, inl, inr}
+use Rattle.std.proofs.lemmas.Bool.{cases_lt}
 use Rattle.gft_base.specs.Arrival.{Arrival, At, Eof, Eod, Bad, Arrives, totals, eods}
-use Rattle.gft_base.specs.Kept.{kept_byte}
 use Rattle.gft_eblock.specs.Arrivals.{data_at}
 
 pub Arrives-append : (a b : List Arrival) (x : ℕ) → Arrives (a ++ b) x ↔ (Arrives a x ⊎ Arrives b x)
@@ -52,33 +50,3 @@ totals-data_at offset (v ∷ bytes) = totals-data_at (offset + 1) bytes
 pub eods-data_at : (offset : ℕ) (bytes : List ℕ) → eods (data_at offset bytes) ≡ 0
 eods-data_at offset [] = refl
 eods-data_at offset (v ∷ bytes) = eods-data_at (offset + 1) bytes
-
--- the byte that arrived first stays the kept one
-pub kept_byte-first : (a b : List Arrival) (x : ℕ) → Arrives a x → kept_byte (a ++ b) x ≡ kept_byte a x
-kept_byte-first [] b x none = absurd none
-kept_byte-first (At y v ∷ a) b x came =
-    elim (cases_order y x) [
-      | inl same ↦ rw (eq-eqb y x same)
-      | inr apart ↦
-          let other : y ≢ x = elim apart [ inl less ↦ omega arith | inr more ↦ omega arith ] in
-          rw (ne_eqb y x other) (elim came [ inl here ↦ absurd (other here) | inr later ↦ kept_byte-first a b x later ])
-    ]
-kept_byte-first (Eof t ∷ a) b x came = kept_byte-first a b x came
-kept_byte-first (Eod ∷ a) b x came = kept_byte-first a b x came
-kept_byte-first (Bad refused ∷ a) b x came = kept_byte-first a b x came
-
-pub kept_byte-later : (a b : List Arrival) (x : ℕ) → ¬ Arrives a x → kept_byte (a ++ b) x ≡ kept_byte b x
-kept_byte-later [] b x out = refl
-kept_byte-later (At y v ∷ a) b x out =
-    let other : y ≢ x = λ same. out (inl same) in
-    rw (ne_eqb y x other) (kept_byte-later a b x (λ later. out (inr later)))
-kept_byte-later (Eof t ∷ a) b x out = kept_byte-later a b x out
-kept_byte-later (Eod ∷ a) b x out = kept_byte-later a b x out
-kept_byte-later (Bad refused ∷ a) b x out = kept_byte-later a b x out
-
-pub kept_byte-data_at : (offset : ℕ) (bytes : List ℕ) (x k : ℕ) → x ≡ offset + k → k < length bytes → kept_byte (data_at offset bytes) x ≡ Some (slice_index bytes k)
-kept_byte-data_at offset [] x k is lt = absurd (omega arith)
-kept_byte-data_at offset (v ∷ bytes) x zero is lt = rw (eq-eqb offset x (omega arith))
-kept_byte-data_at offset (v ∷ bytes) x (suc k) is lt =
-    let other : offset ≢ x = omega arith in
-    rw (ne_eqb offset x other) (kept_byte-data_at (offset + 1) bytes x k (omega arith) (omega arith))

@@ -1,9 +1,8 @@
 -- A good input is refused by no line.
-use Rattle.std.proofs.Common.{◌≡◌, ◌≢◌, ℕ, ◌<◌, ◌⊎◌, List, [], ◌∷◌, ◌++◌, append_assoc, append-nil, length, take, Option, Some, None, IsSome, refl, sym, ap, ◌∙◌, subst, arith, inl, inr}
+use Rattle.std.proofs.Common.{◌≡◌, ℕ, ◌<◌, ◌⊎◌, List, [], ◌∷◌, ◌++◌, append_assoc, append-nil, length, take, Option, Some, None, IsSome, refl, sym, ap, ◌∙◌, subst, arith, inl, inr}
 use Rattle.std.proofs.lemmas.List.{take-append-le}
 use Rattle.gft_base.specs.Causes.{Rose}
-use Rattle.gft_base.specs.Arrival.{Arrival, Refusal, At, Eof, Eod, Bad, totals, eods}
-use Rattle.gft_base.specs.Done.{IsDone}
+use Rattle.gft_base.specs.Arrival.{Arrival, Refusal, At, Eof, Eod, Bad, eods}
 use Rattle.gft_range.specs.declared.range.Range.{Range}
 use Rattle.gft_eblock.specs.declared.channel.TheConstants.{MOST_BYTES}
 use Rattle.gft_eblock.specs.Arrivals.{arrivals, data_at, IsUnfinished, HasEnded}
@@ -17,7 +16,8 @@ use Rattle.gridftpd.specs.declared.status.Status.TheVariants as status
 use Rattle.gridftpd.specs.Status.{number_of, status_of}
 use Rattle.gridftpd.specs.Cause.{told_by, IsCause, IsLost, HasHole, IsFirstMissing, IsMiscounted, NeedsMoreRanges, EndsBad}
 use Rattle.gridftpd.specs.Drain.{IsTaken, IsTold, IsGood}
-use Rattle.gridftpd.proofs.ArrivalLemmas.{eods-append, totals-append}
+use Rattle.gridftpd.proofs.DoneLemmas.{SaysDone, says_done}
+use Rattle.gridftpd.proofs.ArrivalLemmas.{eods-append}
 use Rattle.gridftpd.proofs.EndLemmas.{no_arrivals}
 use Rattle.gridftpd.proofs.OriginLemmas.{HasEnded-eods}
 
@@ -35,9 +35,15 @@ HasEnded-bad (Eof total ∷ list) refused = HasEnded-bad list refused
 HasEnded-bad (Eod ∷ list) refused = tt
 HasEnded-bad (Bad other ∷ list) refused = tt
 
-module _ (bytes stream rest : List ℕ) (end : ℕ) (all : bytes ≡ stream ++ rest) (good : IsGood bytes end) where
+module _ (bytes stream rest : List ℕ) (all : bytes ≡ stream ++ rest) (good : IsGood bytes) where
+  abbrev end : ℕ
+  end = good.done.whole.0
+
+  says : SaysDone (told_by bytes) end
+  says = says_done (told_by bytes) good.done
+
   some_eod : 0 < eods (told_by bytes)
-  some_eod = let bounds = good.done.in_bounds in omega (arith, good.done.met, bounds.0)
+  some_eod = let bounds = says.in_bounds in omega (arith, says.met, bounds.0)
 
   grown : (more : List Arrival) × (told_by bytes ≡ told_by stream ++ more)
   grown = let more = arrivals-grow 0 stream rest in (more.0, ap (arrivals 0) all ∙ more.1)
@@ -51,7 +57,7 @@ module _ (bytes stream rest : List ℕ) (end : ℕ) (all : bytes ≡ stream ++ r
       let same : told_by bytes ≡ told_by stream = ap (arrivals 0) (all ∙ ap (λ tail. stream ++ tail) nothing ∙ append-nil stream) in
       omega (arith, some_eod, ap eods same, eods-unfinished (told_by stream) lost.unfinished)
 
-  not_missing : (list : List Arrival) (missing : Option Range) → IsDone list end → IsFirstMissing list missing → IsSome missing → ⊥
+  not_missing : (list : List Arrival) (missing : Option Range) → SaysDone list end → IsFirstMissing list missing → IsSome missing → ⊥
   not_missing list None done first there = cc
   not_missing list (Some gap) done first there =
       let full : gap.start < gap.end = first.0 in
@@ -67,7 +73,7 @@ module _ (bytes stream rest : List ℕ) (end : ℕ) (all : bytes ≡ stream ++ r
             omega (arith, some_eod, ap eods nothing)
         | inr one ↦
             let same = same_told (HasEnded-eods (told_by stream) (omega (arith, one))) in
-            let done = subst (λ (list : List Arrival). IsDone list end) same good.done in
+            let done = subst (λ (list : List Arrival). SaysDone list end) same says in
             elim hole.why [ inl unmet ↦ unmet (hole.announced ∙ done.announced ∙ ap (λ (n : ℕ). Some n) (sym done.met ∙ sym hole.counted)) | inr there ↦ not_missing (told_by stream) missing done hole.first_missing there ]
       ]
 
@@ -80,7 +86,7 @@ module _ (bytes stream rest : List ℕ) (end : ℕ) (all : bytes ≡ stream ++ r
   not_miscounted : (error : EodError) → IsMiscounted (told_by stream) error → ⊥
   not_miscounted error wrong =
       let more = grown in
-      done_is_counted (told_by stream) more.0 end error (subst (λ (list : List Arrival). IsDone list end) more.1 good.done) wrong
+      done_is_counted (told_by stream) more.0 end error (subst (λ (list : List Arrival). SaysDone list end) more.1 says) wrong
 
   not_too_long : ((n : ℕ) → n < length stream → IsUnfinished (told_by (take n stream))) → length stream ≡ MOST_BYTES → ⊥
   not_too_long in_time long =
@@ -116,10 +122,10 @@ module _ (bytes stream rest : List ℕ) (end : ℕ) (all : bytes ≡ stream ++ r
   no_refusal outcome.DriveFailed is cause in_time = cc
   no_refusal outcome.OutOfMemory is cause in_time = cc
 
-pub refused_never : (bytes stream : List ℕ) (before after : Option (List ℕ)) (end : ℕ) (ending : Outcome) → before ≡ Some bytes → IsGood bytes end → IsTaken before after stream → IsCause ending stream after → status.Refused ≡ status_of ending → ⊥
-refused_never bytes stream None after end ending is good taken cause refused = cc
-refused_never bytes stream (Some known) None end ending is good taken cause refused = taken.consumed
-refused_never bytes stream (Some known) (Some rest) end ending is good taken cause refused = no_refusal bytes stream rest end (let same : known ≡ bytes = cc in sym same ∙ taken.consumed) good ending refused cause taken.in_time
+pub refused_never : (bytes stream : List ℕ) (before after : Option (List ℕ)) (ending : Outcome) → before ≡ Some bytes → IsGood bytes → IsTaken before after stream → IsCause ending stream after → status.Refused ≡ status_of ending → ⊥
+refused_never bytes stream None after ending is good taken cause refused = cc
+refused_never bytes stream (Some known) None ending is good taken cause refused = taken.consumed
+refused_never bytes stream (Some known) (Some rest) ending is good taken cause refused = no_refusal bytes stream rest (let same : known ≡ bytes = cc in sym same ∙ taken.consumed) good ending refused cause taken.in_time
 
 read_by : (ending : Outcome) → status.ReadFailed ≡ status_of ending → ending ≡ outcome.ReadFailed
 read_by outcome.ReadFailed is = refl

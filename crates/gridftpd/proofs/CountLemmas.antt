@@ -1,14 +1,15 @@
 -- The count of EODs beside the arrivals.
-use Rattle.std.proofs.Common.{◌≡◌, ◌≢◌, ℕ, suc, ◌+◌, ◌<◌, ◌≤◌, ◌⊎◌, Bool, true, false, List, [], ◌∷◌, ◌++◌, append-nil, append_assoc, ◌||◌, Option, Some, None, refl, sym, ap, ◌∙◌, subst, arith, inl, inr}
+use Rattle.std.proofs.Common.{◌≡◌, ℕ, suc, ◌+◌, ◌<◌, ◌≤◌, ◌⊎◌, Bool, true, false, List, [], ◌∷◌, ◌++◌, append-nil, append_assoc, ◌||◌, Option, Some, None, refl, sym, ap, ◌∙◌, subst, arith, inl, inr}
 use Rattle.std.proofs.lemmas.Bool.{eq-eqb, ne_eqb, le-ltb, leb-true}
 use Rattle.std.proofs.lemmas.Bool.Decides.{eqb_tells}
 use Rattle.std.specs.Prelude.{nat_eq, nat_lt, nat_le, if◌then◌else◌}
 use Rattle.gft_base.specs.Arrival.{Arrival, At, Eof, Eod, Bad, totals, eods}
-use Rattle.gft_base.specs.Done.{IsDone, first_of, AllAre}
+use Rattle.gridftpd.specs.Totals.{first_of, AllAre}
+use Rattle.gridftpd.proofs.DoneLemmas.{SaysDone}
 use Rattle.gft_eod.specs.declared.error.EodError.{EodError}
-use Rattle.gft_eod.specs.declared.error.EodError.TheVariants.{BadTotal, TwoTotals, TooManyEods}
-use Rattle.gft_eod.specs.Count.{Count, IsCount, IsMet, IsWithin}
-use Rattle.gft_eod.specs.Refusal.{eof_refusal, eod_refusal, totals_refusal, eods_refusal}
+use Rattle.gft_eod.specs.declared.error.EodError.TheVariants.{BadTotal, TwoTotals}
+use Rattle.gft_eod.specs.Count.{Count}
+use Rattle.gft_eod.specs.Refusal.{eof_refusal, eod_refusal, totals_refusal}
 use Rattle.gridftpd.specs.Cause.{count_of, refusal_at, IsMiscounted}
 use Rattle.gridftpd.specs.Follows.{Counts}
 use Rattle.gridftpd.proofs.ArrivalLemmas.{totals-append, eods-append}
@@ -122,7 +123,7 @@ refused_fine number end earlier Eod later error low high all met refused =
     let no : nothing ≡ Some error = sym fine ∙ refused in
     cc
 
-pub done_is_counted : (list more : List Arrival) (end : ℕ) (error : EodError) → IsDone (list ++ more) end → IsMiscounted list error → ⊥
+pub done_is_counted : (list more : List Arrival) (end : ℕ) (error : EodError) → SaysDone (list ++ more) end → IsMiscounted list error → ⊥
 done_is_counted list more end error done wrong =
     let split : list ++ more ≡ wrong.earlier ++ (wrong.arrival ∷ (wrong.later ++ more)) = ap (λ front. front ++ more) wrong.split ∙ append_assoc wrong.earlier (wrong.arrival ∷ wrong.later) more in
     let bounds = done.in_bounds in

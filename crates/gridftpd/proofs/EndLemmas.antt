@@ -1,14 +1,14 @@
 -- What an intake that ended says of its stream.
-use Rattle.std.proofs.Common.{◌≡◌, ◌≢◌, ℕ, ◌<◌, ◌≤◌, ◌⊎◌, ◌↔◌, Bool, true, false, cond, List, [], ◌∷◌, ◌++◌, length, length-append, take, drop, Option, Some, None, IsSome, append_assoc, append-nil, refl, sym, ap, ◌∙◌, subst, arith, inl, inr, Bor}
+use Rattle.std.proofs.Common.{◌≡◌, ◌≢◌, ℕ, ◌<◌, ◌≤◌, ◌⊎◌, ◌↔◌, Bool, true, false, List, [], ◌∷◌, ◌++◌, length, length-append, take, drop, Option, Some, None, IsSome, append_assoc, append-nil, refl, sym, ap, ◌∙◌, subst, arith, inl, inr, Bor}
 use Rattle.std.specs.Prelude.{slice_index, is_some, IfNone, IfSome}
-use Rattle.std.specs.Bool.{then_some}
 use Rattle.std.specs.Io.KnownBytes.{Consumes, IsAtEnd}
 use Rattle.std.proofs.lemmas.List.{take_all, get_or-take, take-append-drop, length-take-le}
 use Rattle.std.proofs.lemmas.Bool.{cases_lt}
+use Rattle.std.proofs.lemmas.Option.{slice_get-get_or, slice_get_past}
 use Rattle.gft_base.specs.Causes.{Rose}
-use Rattle.gft_base.specs.Arrival.{Arrival, Eof, Bad, Arrives, totals, eods}
-use Rattle.gft_base.specs.Kept.{kept_byte, HasKept}
-use Rattle.gft_base.specs.Done.{IsDone, first_of}
+use Rattle.gft_base.specs.Arrival.{Arrival, Bad, Arrives, totals, eods}
+use Rattle.gft_core.specs.Kept.{kept}
+use Rattle.gft_core.specs.Done.{Done}
 use Rattle.gft_range.specs.declared.range.Range.{Range}
 use Rattle.gft_range.specs.Range.{HasOffset}
 use Rattle.gft_range.specs.Set.{KeptRanges}
@@ -29,9 +29,13 @@ use Rattle.gft_eblock.proofs.ToComeLemmas.{to_come-done, to_come-nothing, to_com
 use Rattle.gft_eod.specs.declared.error.EodError.{EodError}
 use Rattle.gft_eod.specs.Count.{IsCount, IsMet, IsWithin}
 use Rattle.gridftpd.proofs.CountLemmas.{count_is}
+use Rattle.gridftpd.proofs.DoneLemmas.{done_of}
+use Rattle.gridftpd.proofs.EventLemmas.{none_kept}
 use Rattle.gridftpd.specs.declared.intake.Intake.{Intake}
 use Rattle.gridftpd.specs.Cause.{told_by, IsLost, HasHole, IsFirstMissing, IsMiscounted, count_of, refusal_at, NeedsMoreRanges, EndsBad}
-use Rattle.gridftpd.specs.Drain.{IsStored}
+use Rattle.gridftpd.specs.Drain.{IsStored, IsTaken}
+use Rattle.gridftpd.specs.Events.{events_of, IsKept}
+use Rattle.gridftpd.specs.Totals.{first_of}
 use Rattle.gridftpd.specs.Follows.{Follows, HasKeptIn}
 
 -- ---- the bytes that were taken
@@ -53,6 +57,10 @@ Consumes-append (Some xs) (Some ys) (Some zs) s t first next = first ∙ ap (λ 
 pub is_none : {A : Type 0} (o : Option A) → is_some o ≡ false → o ≡ None
 is_none None not = refl
 is_none (Some x) not = absurd (cc)
+
+-- nothing was taken yet
+pub nothing_taken : (left : Option (List ℕ)) → IsTaken left left []
+nothing_taken left = record { consumed = Consumes-none left; in_time = λ n lt. absurd (omega arith) }
 
 empty_list : (xs : List ℕ) → length xs ≡ 0 → xs ≡ []
 empty_list [] none = refl
@@ -112,30 +120,37 @@ module _ {D : Type 0} (state : D → DriveState) (start : DriveState) (stream : 
         why = why;
       }
 
-  pub done_from : (end : ℕ) → Follows state start 1 stream intake → channel.IsDone intake.channel → IsMet intake.count → IsCount intake.count → ((x : ℕ) → HasOffset intake.keep.set.ranges x ↔ (x < end)) → IsDone (told_by stream) end
+  pub done_from : (end : ℕ) → Follows state start 1 stream intake → channel.IsDone intake.channel → IsMet intake.count → IsCount intake.count → ((x : ℕ) → HasOffset intake.keep.set.ranges x ↔ (x < end)) → Done (events_of (told_by stream))
   done_from end follows done met sound below =
       let first : first_of (totals follows.told) ≡ Some intake.count.eods = sym follows.counted.total ∙ met in
       let within = subst (λ (total : Option ℕ). IsWithin total intake.count.eods) met sound in
-      rw (told_all follows done) (record {
+      rw (told_all follows done) (done_of follows.told end follows.sound (record {
         total = intake.count.eods;
         announced = first;
         in_bounds = (within.0, within.1);
         no_other = follows.counted.agreed intake.count.eods first;
         met = sym follows.counted.eods;
         whole = λ x. (λ came. (below x).0 ((follows.offsets x).1 came), λ lt. (follows.offsets x).0 ((below x).1 lt));
-      })
+      }))
+
+  -- the file ends where what is kept ends
+  kept_file : (told : List Arrival) (end : ℕ) (before cut : List ℕ) → ((x : ℕ) → Arrives told x → x < end) → ((x : ℕ) → x < end → kept (events_of told) x ≡ Some (slice_index before x)) → Finishes end before cut → IsKept (events_of told) cut
+  kept_file told end before cut within bytes finishes x = elim (cases_lt x end) [
+    | inl lt ↦
+        let read : slice_index cut x ≡ slice_index before x = ap (λ file. slice_index file x) finishes.left ∙ get_or-take end before x 0 lt in
+        bytes x lt ∙ ap (λ v. Some v) (sym read) ∙ sym (slice_get-get_or cut x 0 (omega (arith, finishes.size)))
+    | inr past ↦
+        none_kept told x (λ came. let lt = within x came in omega arith) ∙ sym (slice_get_past cut x (omega (arith, finishes.size)))
+  ]
 
   pub stored_from : (end : ℕ) (new : DriveState) → Follows state start 1 stream intake → channel.IsDone intake.channel → IsMet intake.count → IsCount intake.count → ((x : ℕ) → HasOffset intake.keep.set.ranges x ↔ (x < end))
       → Reads Bytes (Finishes end) (state intake.keep.drive) new → IsStored stream start new
   stored_from end new follows done met sound below finished =
       let told = told_all follows done in (
-        end,
         done_from end follows done met sound below,
-        Reads-then Bytes (HasKeptIn follows.told intake.keep.set.ranges) (Finishes end) (λ before after. HasKept (told_by stream) end after) start (state intake.keep.drive) new follows.kept finished
-            (λ xs ys zs kept finishes. record {
-              size = finishes.size;
-              bytes = λ x lt. ap (λ list. kept_byte list x) told ∙ kept x ((below x).1 lt) ∙ ap (λ v. Some v) (sym (ap (λ file. slice_index file x) finishes.left ∙ get_or-take end ys x 0 lt));
-            }),
+        Reads-then Bytes (HasKeptIn follows.told intake.keep.set.ranges) (Finishes end) (λ before after. IsKept (events_of (told_by stream)) after) start (state intake.keep.drive) new follows.kept finished
+            (λ xs ys zs kept finishes. subst (λ (list : List Arrival). IsKept (events_of list) zs) (sym told)
+            (kept_file follows.told end ys zs (λ x came. (below x).0 ((follows.offsets x).1 came)) (λ x lt. kept x ((below x).1 lt)) finishes)),
       )
 
   -- ---- one piece more
@@ -202,9 +217,8 @@ below_end set one two end missing first second none no_gap whole =
 pub stored_since : (stream : List ℕ) (first attached emptied last : DriveState) → Reads Bytes Same first attached → Reads Bytes (CutTo 0) attached emptied → IsStored stream emptied last → IsStored stream first last
 stored_since stream first attached emptied last synced cut stored = (
   stored.0,
-  stored.1,
-  Reads-then Bytes Same (λ before after. HasKept (told_by stream) stored.0 after) (λ before after. HasKept (told_by stream) stored.0 after) first attached last synced
-      (Reads-then Bytes (CutTo 0) (λ before after. HasKept (told_by stream) stored.0 after) (λ before after. HasKept (told_by stream) stored.0 after) attached emptied last cut stored.2 (λ xs ys zs one has. has))
+  Reads-then Bytes Same (λ before after. IsKept (events_of (told_by stream)) after) (λ before after. IsKept (events_of (told_by stream)) after) first attached last synced
+      (Reads-then Bytes (CutTo 0) (λ before after. IsKept (events_of (told_by stream)) after) (λ before after. IsKept (events_of (told_by stream)) after) attached emptied last cut stored.1 (λ xs ys zs one has. has))
       (λ xs ys zs one has. has),
 )
 

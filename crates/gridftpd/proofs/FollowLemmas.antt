@@ -1,11 +1,11 @@
 -- How an intake goes on along its stream.
-use Rattle.std.proofs.Common.{◌≡◌, ℕ, ◌+◌, ◌-◌, ◌<◌, ◌≤◌, ◌⊎◌, ◌↔◌, true, false, cond, List, [], ◌∷◌, ◌++◌, length, length-append, take, Some, None, append_assoc, append-nil, refl, sym, ap, ◌∙◌, subst, arith, inl, inr, Bor}
+use Rattle.std.proofs.Common.{◌≡◌, ℕ, ◌+◌, ◌-◌, ◌<◌, ◌≤◌, ◌⊎◌, ◌↔◌, false, List, [], ◌∷◌, ◌++◌, length, length-append, take, Some, None, append_assoc, refl, sym, ap, ◌∙◌, subst, arith, inl, inr, Bor}
 use Rattle.std.specs.Prelude.{slice_index}
 use Rattle.std.proofs.lemmas.List.{take_all, length-take-le, take-append-le}
 use Rattle.std.proofs.Math.Seq.{take-append-add}
 use Rattle.std.proofs.lemmas.Bool.{cases_lt}
-use Rattle.gft_base.specs.Arrival.{Arrival, Eof, Eod, Arrives, totals, eods}
-use Rattle.gft_base.specs.Kept.{kept_byte}
+use Rattle.gft_base.specs.Arrival.{Arrival, At, Eof, Eod, Bad, Arrives, eods}
+use Rattle.gft_core.specs.Kept.{kept}
 use Rattle.gft_range.specs.declared.range.Range.{Range}
 use Rattle.gft_range.specs.Range.{HasOffset}
 use Rattle.gft_range.specs.Set.{IsUnion}
@@ -25,8 +25,10 @@ use Rattle.gft_eblock.proofs.ToComeLemmas.{to_come-early}
 use Rattle.gft_eod.specs.Refusal.{eof_refusal}
 use Rattle.gridftpd.proofs.CountLemmas.{Counts-same, Counts-eof, Counts-eod}
 use Rattle.gridftpd.specs.declared.intake.Intake.{Intake}
-use Rattle.gridftpd.specs.Follows.{Counts, Follows, HasKeptIn}
-use Rattle.gridftpd.proofs.ArrivalLemmas.{Arrives-append, totals-append, eods-append, Arrives-data_at, totals-data_at, eods-data_at, kept_byte-first, kept_byte-later, kept_byte-data_at}
+use Rattle.gridftpd.specs.Follows.{Counts, Follows, HasKeptIn, HasNoBad}
+use Rattle.gridftpd.proofs.ArrivalLemmas.{Arrives-append, eods-append, Arrives-data_at, totals-data_at, eods-data_at}
+use Rattle.gridftpd.proofs.EventLemmas.{kept-first, kept-later, kept-data_at}
+use Rattle.gridftpd.specs.Events.{events_of}
 
 -- no more than was wanted has no EOD or bad header before its last byte
 pub in_time_more : {D : Type 0} (state : D → DriveState) (start : DriveState) (stream piece : List ℕ) (intake : Intake D) → Follows state start 0 stream intake → length piece ≤ wanted intake.channel
@@ -42,10 +44,21 @@ in_time_more state start stream piece intake follows fits n lt =
           rw (cut, follows.carried (take k piece)) (IsUnfinished-append follows.told _ (follows.unfinished refl) (to_come-early intake.channel (take k piece) (omega arith)))
     ]
 
+HasNoBad-append : (a b : List Arrival) → HasNoBad a → HasNoBad b → HasNoBad (a ++ b)
+HasNoBad-append [] b sound more = more
+HasNoBad-append (At offset value ∷ a) b sound more = HasNoBad-append a b sound more
+HasNoBad-append (Eof total ∷ a) b sound more = HasNoBad-append a b sound more
+HasNoBad-append (Eod ∷ a) b sound more = HasNoBad-append a b sound more
+HasNoBad-append (Bad refusal ∷ a) b sound more = absurd sound
+
+HasNoBad-data_at : (offset : ℕ) (bytes : List ℕ) → HasNoBad (data_at offset bytes)
+HasNoBad-data_at offset [] = tt
+HasNoBad-data_at offset (v ∷ bytes) = HasNoBad-data_at (offset + 1) bytes
+
 -- what an event does to the data: kept bytes stay, and at each other offset that it brings stands its byte
 record Books (set : List Range) (brought : List Arrival) (before after : List ℕ) : Type 0 where
   pub stays : (x : ℕ) → HasOffset set x → slice_index after x ≡ slice_index before x
-  pub fresh : (x : ℕ) → ¬ HasOffset set x → Arrives brought x → kept_byte brought x ≡ Some (slice_index after x)
+  pub fresh : (x : ℕ) → ¬ HasOffset set x → Arrives brought x → kept (events_of brought) x ≡ Some (slice_index after x)
 
 module _ {D : Type 0} (state : D → DriveState) (start : DriveState) (stream piece : List ℕ) (old new : Intake D) (step : Step) (follows : Follows state start 0 stream old) (advances : Advances old.channel piece step new.channel) (all : step.used ≡ length piece) (fits : length piece ≤ wanted old.channel) where
   kept_more : ((x : ℕ) → HasOffset new.keep.set.ranges x ↔ (HasOffset old.keep.set.ranges x ⊎ Arrives (event_arrivals step.event) x)) → Reads Bytes (Books old.keep.set.ranges (event_arrivals step.event)) (state old.keep.drive) (state new.keep.drive)
@@ -54,10 +67,10 @@ module _ {D : Type 0} (state : D → DriveState) (start : DriveState) (stream pi
       let brought = event_arrivals step.event in
       Reads-then Bytes (HasKeptIn follows.told old.keep.set.ranges) (Books old.keep.set.ranges brought) (HasKeptIn (follows.told ++ brought) new.keep.set.ranges) start (state old.keep.drive) (state new.keep.drive) follows.kept books
       (λ xs ys zs kept booked x had. elim (HasOffset-or old.keep.set.ranges x) [
-        | inl before ↦ kept_byte-first follows.told brought x ((follows.offsets x).0 before) ∙ kept x before ∙ ap (λ v. Some v) (sym (booked.stays x before))
+        | inl before ↦ kept-first follows.told brought x ((follows.offsets x).0 before) ∙ kept x before ∙ ap (λ v. Some v) (sym (booked.stays x before))
         | inr out ↦ elim ((sets x).0 had) [
           | inl before ↦ absurd (out before)
-          | inr came ↦ kept_byte-later follows.told brought x (λ arrived. out ((follows.offsets x).1 arrived)) ∙ booked.fresh x out came
+          | inr came ↦ kept-later follows.told brought x (λ arrived. out ((follows.offsets x).1 arrived)) ∙ booked.fresh x out came
         ]
       ])
 
@@ -65,8 +78,9 @@ module _ {D : Type 0} (state : D → DriveState) (start : DriveState) (stream pi
       → Reads Bytes (Books old.keep.set.ranges (event_arrivals step.event)) (state old.keep.drive) (state new.keep.drive)
       → Holds new.keep.set.ranges (state new.keep.drive) → Goes (state old.keep.drive) (state new.keep.drive) → new.keep.broken ≡ false
       → Counts (follows.told ++ event_arrivals step.event) new.count
+      → HasNoBad (event_arrivals step.event)
       → eods (event_arrivals step.event) ≡ n → (n ≡ 0 → IsUnfinished (event_arrivals step.event)) → Follows state start n (stream ++ piece) new
-  follows_more n sets books holds goes whole counted ended unfinished =
+  follows_more n sets books holds goes whole counted sound ended unfinished =
       let brought = event_arrivals step.event in
       let all_of_it : take step.used piece ≡ piece = take_all step.used piece (omega arith) in
       record {
@@ -83,6 +97,7 @@ module _ {D : Type 0} (state : D → DriveState) (start : DriveState) (stream pi
         goes = Goes-then start (state old.keep.drive) (state new.keep.drive) follows.goes goes;
         whole = whole;
         counted = counted;
+        sound = HasNoBad-append follows.told brought follows.sound sound;
         eods = eods-append follows.told brought ∙ omega (arith, follows.eods, ended);
         taken = omega (arith, advances.taken, follows.taken, length-append stream piece);
         unfinished = λ none. IsUnfinished-append follows.told brought (follows.unfinished refl) (unfinished none);
@@ -110,11 +125,12 @@ module _ {D : Type 0} (state : D → DriveState) (start : DriveState) (stream pi
             let back : offset + k ≡ x = omega arith in
             let lt : k < length bytes.now = omega arith in
             let read = stores.added k lt (λ had. out (subst (λ y. HasOffset old.keep.set.ranges y) back had)) in
-            kept_byte-data_at offset bytes.now x k (sym back) lt ∙ ap (λ v. Some v) (sym read ∙ ap (λ y. slice_index ys y) back);
+            kept-data_at offset bytes.now x k (sym back) lt ∙ ap (λ v. Some v) (sym read ∙ ap (λ y. slice_index ys y) back);
       })
       stored))
       holds goes whole
       (rw (is, counted) (Counts-same follows.told (data_at offset bytes.now) old.count follows.counted (totals-data_at offset bytes.now) (eods-data_at offset bytes.now)))
+      (rw is (HasNoBad-data_at offset bytes.now))
       (rw is (eods-data_at offset bytes.now))
       (λ none. rw is (IsUnfinished-data_at offset bytes.now))
 
@@ -128,14 +144,14 @@ module _ {D : Type 0} (state : D → DriveState) (start : DriveState) (stream pi
   pub follows_none : step.event ≡ None → new.keep ≡ old.keep → new.count ≡ old.count → Follows state start 0 (stream ++ piece) new
   follows_none is same counted =
       follows_more 0 (rw is (nothing_booked [] same (λ x none. none))) (rw is (books_nothing [] same (λ x none. none)))
-      (rw same follows.holds) (rw same (Goes-refl (state old.keep.drive))) (rw same follows.whole) (rw (is, counted) (Counts-same follows.told [] old.count follows.counted refl refl)) (rw is refl) (λ none. rw is tt)
+      (rw same follows.holds) (rw same (Goes-refl (state old.keep.drive))) (rw same follows.whole) (rw (is, counted) (Counts-same follows.told [] old.count follows.counted refl refl)) (rw is tt) (rw is refl) (λ none. rw is tt)
 
   pub follows_eof : (total : ℕ) → step.event ≡ Some (event.Eof total) → new.keep ≡ old.keep → eof_refusal old.count total ≡ None → new.count.total ≡ Some total → new.count.eods ≡ old.count.eods → Follows state start 0 (stream ++ piece) new
   follows_eof total is same taken announced unchanged =
       follows_more 0 (rw is (nothing_booked (Eof total ∷ []) same (λ x none. none))) (rw is (books_nothing (Eof total ∷ []) same (λ x none. none)))
-      (rw same follows.holds) (rw same (Goes-refl (state old.keep.drive))) (rw same follows.whole) (rw is (Counts-eof follows.told total old.count new.count follows.counted taken announced unchanged)) (rw is refl) (λ none. rw is tt)
+      (rw same follows.holds) (rw same (Goes-refl (state old.keep.drive))) (rw same follows.whole) (rw is (Counts-eof follows.told total old.count new.count follows.counted taken announced unchanged)) (rw is tt) (rw is refl) (λ none. rw is tt)
 
   pub follows_eod : step.event ≡ Some event.Eod → new.keep ≡ old.keep → new.count.total ≡ old.count.total → new.count.eods ≡ old.count.eods + 1 → Follows state start 1 (stream ++ piece) new
   follows_eod is same announced more =
       follows_more 1 (rw is (nothing_booked (Eod ∷ []) same (λ x none. none))) (rw is (books_nothing (Eod ∷ []) same (λ x none. none)))
-      (rw same follows.holds) (rw same (Goes-refl (state old.keep.drive))) (rw same follows.whole) (rw is (Counts-eod follows.told old.count new.count follows.counted announced more)) (rw is refl) (λ none. absurd (omega arith))
+      (rw same follows.holds) (rw same (Goes-refl (state old.keep.drive))) (rw same follows.whole) (rw is (Counts-eod follows.told old.count new.count follows.counted announced more)) (rw is tt) (rw is refl) (λ none. absurd (omega arith))

@@ -1,7 +1,10 @@
 pub mod ArrivalLemmas
 pub mod CountLemmas
+pub mod DoneLemmas
 pub mod EndLemmas
+pub mod EventLemmas
 pub mod FollowLemmas
 pub mod OriginLemmas
 pub mod StatusLemmas
+pub mod WordsLemmas
 pub mod CertainLemmas

@@ -1,20 +1,26 @@
 -- From an honest sender the kept bytes are the source.
-use Rattle.std.proofs.Common.{◌≡◌, ◌≢◌, ℕ, ◌-◌, ◌<◌, ◌≤◌, List, [], ◌∷◌, length, Option, Some, None, sym, ap, ◌∙◌, subst, arith, inl, inr, slice_get}
-use Rattle.std.specs.Prelude.{slice_index}
+use Rattle.std.proofs.Common.{◌≡◌, ◌≢◌, ℕ, zero, suc, ◌<◌, List, [], ◌∷◌, Option, Some, None, refl, sym, ap, ◌∙◌, subst, arith, inl, inr, slice_get}
 use Rattle.std.specs.Io.KnownBytes.{Consumes}
-use Rattle.std.proofs.lemmas.Bool.{cases_lt, cases_order, eq-eqb, ne_eqb}
-use Rattle.std.proofs.lemmas.List.{same_lists, get_or_default}
-use Rattle.std.proofs.lemmas.Option.{slice_get_within, get_or_from_slice_get}
+use Rattle.std.proofs.lemmas.Bool.{cases_order}
+use Rattle.std.proofs.lemmas.Option.{none-some}
 use Rattle.gft_base.specs.Arrival.{Arrival, At, Eof, Eod, Bad, eods}
-use Rattle.gft_base.specs.Done.{IsDone}
-use Rattle.gft_base.specs.Kept.{kept_byte, HasKept}
+use Rattle.gft_core.specs.declared.event.CoreEvent.{CoreEvent}
+use Rattle.gft_core.specs.declared.event.CoreEvent.TheVariants as event
+use Rattle.gft_core.specs.Kept.{byte_at, generation}
+use Rattle.gft_core.specs.Done.{Done}
+use Rattle.gft_core.specs.Laws.{AllCarry, Carries}
+use Rattle.gft_core.proofs.HonestLemmas.{honest, sent_where_booked}
+use Rattle.gft_core.proofs.KeptLemmas.{byte_at-here, byte_at-later}
 use Rattle.gft_drive.specs.Drive.{DriveState, Reads}
 use Rattle.gft_drive.specs.declared.drive.Part.TheVariants.{Bytes}
 use Rattle.gft_drive.proofs.Steps.{Reads-weaker}
 use Rattle.gft_eblock.specs.Arrivals.{arrivals, HasEnded}
 use Rattle.gft_eblock.proofs.EndingLemmas.{arrivals-ended}
 use Rattle.gridftpd.specs.Cause.{told_by}
+use Rattle.gridftpd.specs.Events.{event_of, events_after, events_of, IsKept}
 use Rattle.gridftpd.specs.Drain.{IsTaken, IsStored, IsTruthful, IsHonest, IsFile}
+use Rattle.gridftpd.proofs.DoneLemmas.{says_done}
+use Rattle.gridftpd.proofs.EventLemmas.{arrives_kept}
 
 pub HasEnded-eods : (list : List Arrival) → 0 < eods list → HasEnded list
 HasEnded-eods [] some = absurd (omega arith)
@@ -28,45 +34,58 @@ pub told_of_all : (bytes stream : List ℕ) (after : Option (List ℕ)) → Cons
 told_of_all bytes stream None consumed some = absurd consumed
 told_of_all bytes stream (Some rest) consumed some = ap (arrivals 0) consumed ∙ arrivals-ended 0 stream rest (HasEnded-eods (told_by stream) some)
 
--- the kept byte at x is there, and is the source's
-kept_is_source : (source : List ℕ) (list : List Arrival) (x v : ℕ) → IsTruthful source list → kept_byte list x ≡ Some v → slice_get source x ≡ Some v
-kept_is_source source [] x v truthful kept = absurd (cc)
-kept_is_source source (At offset value ∷ list) x v truthful kept =
-    elim (cases_order offset x) [
-      | inl same ↦
-          let here : Some value ≡ Some v = rw (eq-eqb offset x same) at kept in
-          subst (λ (y : ℕ). slice_get source y ≡ Some v) same (truthful.0 ∙ here)
+-- a byte that arrives and is the source's, as a block
+block_carries : (source : List ℕ) (offset value : ℕ) → slice_get source offset ≡ Some value → Carries source (byte_at offset (value ∷ []))
+block_carries source offset value is x v has =
+    elim (cases_order x offset) [
+      | inl same ↦ ap (slice_get source) same ∙ is ∙ sym (byte_at-here offset value [] x same) ∙ has
       | inr apart ↦
-          let other : offset ≢ x = elim apart [ inl less ↦ omega arith | inr more ↦ omega arith ] in
-          kept_is_source source list x v truthful.1 (rw (ne_eqb offset x other) at kept)
+          let other : x ≢ offset = elim apart [ inl less ↦ omega arith | inr more ↦ omega arith ] in
+          absurd (none-some v (sym (byte_at-later offset value [] x other) ∙ has))
     ]
-kept_is_source source (Eof total ∷ list) x v truthful kept = kept_is_source source list x v truthful kept
-kept_is_source source (Eod ∷ list) x v truthful kept = kept_is_source source list x v truthful kept
-kept_is_source source (Bad refused ∷ list) x v truthful kept = kept_is_source source list x v truthful kept
 
-file_is_source : (source file : List ℕ) (list : List Arrival) (end : ℕ) → IsHonest source list → IsDone list end → HasKept list end file → file ≡ source
-file_is_source source file list end honest done kept =
-    let bounds = done.in_bounds in
-    let some : 0 < eods list = omega (arith, done.met, bounds.0) in
-    let read : (x : ℕ) → x < end → slice_get source x ≡ Some (slice_index file x) = λ x lt. kept_is_source source list x (slice_index file x) honest.truthful (kept.bytes x lt) in
-    let no_more : end ≤ length source = elim (cases_lt 0 end) [
-      | inl has ↦ let last = slice_get_within source (end - 1) _ (read (end - 1) (omega arith)) in omega arith
-      | inr none ↦ omega arith
-    ] in
-    let no_less : length source ≤ end = elim (cases_lt 0 (length source)) [
-      | inl has ↦ let last = (done.whole (length source - 1)).0 (honest.whole some (length source - 1) (omega arith)) in omega arith
-      | inr none ↦ omega arith
-    ] in
-    let size : length file ≡ length source = omega (arith, kept.size) in
-    same_lists file source size (λ k d lt.
-    let within : k < end = omega (arith, kept.size) in
-    get_or_default file k d 0 lt ∙ sym (get_or_from_slice_get source k (slice_index file k) d (read k within)))
+nothing_carried : (source : List ℕ) → Carries source (λ x. None)
+nothing_carried source x v has = absurd (none-some v has)
+
+-- truthful arrivals carry the source's bytes
+carry-after : (source : List ℕ) (before : List CoreEvent) (list : List Arrival) → AllCarry source (generation before) → IsTruthful source list → AllCarry source (generation (events_after before list))
+carry-after source before [] all truthful = all
+carry-after source before (At offset value ∷ list) all truthful =
+    carry-after source (event_of (At offset value) ∷ before) list (all, block_carries source offset value truthful.0) truthful.1
+carry-after source before (Eof total ∷ list) all truthful = carry-after source (event_of (Eof total) ∷ before) list (all, nothing_carried source) truthful
+carry-after source before (Eod ∷ list) all truthful = carry-after source (event_of Eod ∷ before) list (all, nothing_carried source) truthful
+carry-after source before (Bad refusal ∷ list) all truthful = carry-after source (event_of (Bad refusal) ∷ before) list (all, nothing_carried source) truthful
+
+-- lists with the same element at each place
+same_gets : (a b : List ℕ) → ((x : ℕ) → slice_get a x ≡ slice_get b x) → a ≡ b
+same_gets [] [] same = refl
+same_gets [] (y ∷ ys) same = absurd (none-some y (same zero))
+same_gets (x ∷ xs) [] same = absurd (none-some x (sym (same zero)))
+same_gets (x ∷ xs) (y ∷ ys) same =
+    let heads : Some x ≡ Some y = same zero in
+    let tails = same_gets xs ys (λ k. same (suc k)) in
+    cc
+
+-- by the law of an honest sender the kept bytes are the source, and so is the file
+file_is_source : (source file : List ℕ) (list : List Arrival) → IsHonest source list → Done (events_of list) → IsKept (events_of list) file → file ≡ source
+file_is_source source file list sender done is_kept =
+    let says = says_done list done in
+    let bounds = says.in_bounds in
+    let some : 0 < eods list = omega (arith, says.met, bounds.0) in
+    let fresh : List CoreEvent = event.Fresh ∷ [] in
+    let law = honest source (events_of list)
+    (record {
+      carry = carry-after source fresh list (tt, nothing_carried source) sender.truthful;
+      cover = λ x lt. let byte = arrives_kept list x (sender.whole some x lt) in sent_where_booked (generation (events_of list)) x byte.0 byte.1;
+    })
+    done in
+    same_gets file source (λ x. sym (is_kept x) ∙ law x)
 
 pub stored_is_source : (source bytes stream : List ℕ) (before after : Option (List ℕ)) (old new : DriveState) → before ≡ Some bytes → IsHonest source (told_by bytes) → IsTaken before after stream → IsStored stream old new → Reads Bytes (IsFile source) old new
-stored_is_source source bytes stream before after old new is honest taken stored =
-    let done = stored.1 in
-    let bounds = done.in_bounds in
-    let some : 0 < eods (told_by stream) = omega (arith, done.met, bounds.0) in
+stored_is_source source bytes stream before after old new is sender taken stored =
+    let says = says_done (told_by stream) stored.0 in
+    let bounds = says.in_bounds in
+    let some : 0 < eods (told_by stream) = omega (arith, says.met, bounds.0) in
     let all : told_by bytes ≡ told_by stream = told_of_all bytes stream after (subst (λ (b : Option (List ℕ)). Consumes b after stream) is taken.consumed) some in
-    let truthful = subst (λ (list : List Arrival). IsHonest source list) all honest in
-    Reads-weaker Bytes (λ before after. HasKept (told_by stream) stored.0 after) (IsFile source) old new (λ xs ys kept. file_is_source source ys (told_by stream) stored.0 truthful done kept) stored.2
+    let truthful = subst (λ (list : List Arrival). IsHonest source list) all sender in
+    Reads-weaker Bytes (λ before after. IsKept (events_of (told_by stream)) after) (IsFile source) old new (λ xs ys is_kept. file_is_source source ys (told_by stream) truthful stored.0 is_kept) stored.1

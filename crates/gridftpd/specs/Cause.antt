@@ -2,7 +2,7 @@
 use Rattle.std.specs.Prelude.{◌≡◌, ◌≢◌, ℕ, ◌+◌, ◌<◌, ◌⊎◌, ◌↔◌, List, [], ◌∷◌, ◌++◌, length, Option, None, Some, IsSome}
 use Rattle.std.specs.Io.KnownBytes.{IsAtEnd}
 use Rattle.gft_base.specs.Arrival.{Arrival, Refusal, Eof, Eod, Bad, Arrives, totals, eods}
-use Rattle.gft_base.specs.Done.{IsDone, first_of}
+use Rattle.gft_core.specs.Done.{Done}
 use Rattle.gft_range.specs.declared.range.Range.{Range}
 use Rattle.gft_range.specs.Range.{InRange, HasOffset}
 use Rattle.gft_eblock.specs.declared.channel.TheConstants.{MOST_BYTES}
@@ -13,6 +13,8 @@ use Rattle.gft_eod.specs.Count.{Count}
 use Rattle.gft_eod.specs.Refusal.{eof_refusal, eod_refusal}
 use Rattle.gft_keep.specs.declared.keep.TheConstants.{MOST_RANGES}
 use Rattle.gft_keep.specs.Store.{IsFull, block_of}
+use Rattle.gridftpd.specs.Events.{events_of}
+use Rattle.gridftpd.specs.Totals.{first_of}
 use Rattle.gridftpd.specs.declared.outcome.Outcome.{Outcome}
 use Rattle.gridftpd.specs.declared.outcome.Outcome.TheVariants as outcome
 
@@ -79,7 +81,7 @@ pub record EndsBad (stream : List ℕ) (refused : Refusal) : Type 0 where
 
 -- what an outcome says of the bytes that were taken, and of those that are left; a fault and want of memory say nothing of them
 abbrev pub IsCause : Outcome → List ℕ → Option (List ℕ) → Type 0
-IsCause outcome.Complete stream left = (end : ℕ) × IsDone (told_by stream) end
+IsCause outcome.Complete stream left = Done (events_of (told_by stream))
 IsCause (outcome.Lost taken) stream left = IsLost stream left taken
 IsCause (outcome.Hole total number missing) stream left = HasHole stream left total number missing
 IsCause (outcome.BadBlock bad) stream left = EndsBad stream (refusal_of bad)

@@ -2,14 +2,14 @@
 use Rattle.std.specs.Prelude.{◌≡◌, ℕ, ◌<◌, ◌⊎◌, List, [], ◌∷◌, length, take, slice_get, Option, Some}
 use Rattle.std.specs.Io.KnownBytes.{Consumes, Appends}
 use Rattle.gft_base.specs.Causes.{Rose}
-use Rattle.gft_base.specs.Arrival.{Arrival, At, Eof, Eod, Bad, Arrives, totals, eods}
-use Rattle.gft_base.specs.Done.{IsDone}
-use Rattle.gft_base.specs.Kept.{HasKept}
+use Rattle.gft_base.specs.Arrival.{Arrival, At, Eof, Eod, Bad, Arrives, eods}
+use Rattle.gft_core.specs.Done.{Done}
 use Rattle.gft_drive.specs.Drive.{DriveState, Reads}
 use Rattle.gft_drive.specs.declared.drive.Part.TheVariants.{Bytes}
 use Rattle.gft_eblock.specs.declared.channel.TheConstants.{MOST_BYTES}
 use Rattle.gft_eblock.specs.Arrivals.{IsUnfinished, HasEnded}
 use Rattle.gridftpd.specs.Cause.{told_by, NeedsMoreRanges}
+use Rattle.gridftpd.specs.Events.{events_of, IsKept}
 use Rattle.gridftpd.specs.Line.{text_of, out_of_memory_text}
 use Rattle.gridftpd.specs.Status.{status_of}
 use Rattle.gridftpd.specs.declared.outcome.Outcome.{Outcome}
@@ -22,9 +22,9 @@ pub record IsTaken (before after : Option (List ℕ)) (stream : List ℕ) : Type
   pub consumed : Consumes before after stream
   pub in_time : (n : ℕ) → n < length stream → IsUnfinished (told_by (take n stream))
 
--- the arrivals are done, and the data is now their kept bytes and no byte more
+-- the transfer is done, and the data is now its kept bytes and no byte more
 abbrev pub IsStored : List ℕ → DriveState → DriveState → Type 0
-IsStored stream old new = (end : ℕ) × IsDone (told_by stream) end × Reads Bytes (λ before after. HasKept (told_by stream) end after) old new
+IsStored stream old new = Done (events_of (told_by stream)) × Reads Bytes (λ before after. IsKept (events_of (told_by stream)) after) old new
 
 -- the data is now the source, and no byte more
 abbrev pub IsFile : List ℕ → List ℕ → List ℕ → Type 0
@@ -63,8 +63,8 @@ pub record IsHonest (source : List ℕ) (list : List Arrival) : Type 0 where
   pub truthful : IsTruthful source list
   pub whole : 0 < eods list → (x : ℕ) → x < length source → Arrives list x
 
--- an input that is done up to its EOD, which comes within 2^58 bytes, and no piece of which needs more ranges than may be kept
-pub record IsGood (bytes : List ℕ) (end : ℕ) : Type 0 where
-  pub done : IsDone (told_by bytes) end
+-- an input that makes a transfer done, with an EOD (or a bad header) within 2^58 bytes, and no piece of which needs more ranges than may be kept
+pub record IsGood (bytes : List ℕ) : Type 0 where
+  pub done : Done (events_of (told_by bytes))
   pub soon : (n : ℕ) × (n < MOST_BYTES) × HasEnded (told_by (take n bytes))
   pub few_ranges : ¬ NeedsMoreRanges (told_by bytes)

@@ -1,8 +1,7 @@
 -- How an intake stands to the bytes that it took.
 use Rattle.std.specs.Prelude.{◌≡◌, ℕ, ◌<◌, ◌↔◌, Some, List, [], ◌∷◌, ◌++◌, false, length, take, slice_index}
-use Rattle.gft_base.specs.Arrival.{Arrival, Arrives, totals, eods}
-use Rattle.gft_base.specs.Done.{first_of, AllAre}
-use Rattle.gft_base.specs.Kept.{kept_byte}
+use Rattle.gft_base.specs.Arrival.{Arrival, At, Eof, Eod, Bad, Arrives, totals, eods}
+use Rattle.gft_core.specs.Kept.{kept}
 use Rattle.gft_range.specs.declared.range.Range.{Range}
 use Rattle.gft_range.specs.Range.{HasOffset}
 use Rattle.gft_drive.specs.Drive.{DriveState, Goes, Reads}
@@ -11,11 +10,21 @@ use Rattle.gft_keep.specs.Holds.{Holds}
 use Rattle.gft_eod.specs.Count.{Count}
 use Rattle.gft_eblock.specs.Arrivals.{arrivals, IsUnfinished}
 use Rattle.gft_eblock.specs.Channel.{to_come}
+use Rattle.gridftpd.specs.Events.{events_of}
+use Rattle.gridftpd.specs.Totals.{first_of, AllAre}
 use Rattle.gridftpd.specs.declared.intake.Intake.{Intake}
 
 -- at each offset of the set the file has the kept byte
 abbrev pub HasKeptIn : List Arrival → List Range → List ℕ → List ℕ → Type 0
-HasKeptIn told set before after = (x : ℕ) → HasOffset set x → kept_byte told x ≡ Some (slice_index after x)
+HasKeptIn told set before after = (x : ℕ) → HasOffset set x → kept (events_of told) x ≡ Some (slice_index after x)
+
+-- no bad header is among the arrivals
+abbrev pub HasNoBad : List Arrival → Type 0
+HasNoBad [] = Unit {0}
+HasNoBad (At offset value ∷ list) = HasNoBad list
+HasNoBad (Eof total ∷ list) = HasNoBad list
+HasNoBad (Eod ∷ list) = HasNoBad list
+HasNoBad (Bad refusal ∷ list) = ⊥
 
 -- the count is that of the arrivals, and each total is the first
 pub record Counts (list : List Arrival) (count : Count) : Type 0 where
@@ -33,6 +42,7 @@ pub record Follows {D : Type 0} (state : D → DriveState) (start : DriveState) 
   pub goes : Goes start (state intake.keep.drive)
   pub whole : intake.keep.broken ≡ false
   pub counted : Counts told intake.count
+  pub sound : HasNoBad told
   pub eods : eods told ≡ number
   pub taken : intake.channel.taken ≡ length stream
   pub unfinished : number ≡ 0 → IsUnfinished told

@@ -1,7 +1,9 @@
 pub mod Cause
 pub mod Drain
+pub mod Events
 pub mod Follows
 pub mod Line
 pub mod Status
+pub mod Totals
 pub mod Turn
 pub mod Words

@@ -17,7 +17,7 @@ use crate::line::{
 use crate::outcome::Outcome;
 use crate::status::Status;
 use crate::words::are_drain_words;
-use gft_base::Failed;
+use gft_base::{Failed, OutOfMemory};
 use gft_drive::{Drive, Origin, Sink, Source};
 use gft_keep::{AttachError, Keep};
 use std::alloc::{AllocError, Global};
@@ -69,7 +69,7 @@ pub fn drain<I: Source, W: Sink, D: Drive + Drop, O: Origin>(
     ensures back { AreDrainWords words.now → IsSomeAnd result.1 (λ back. Goes (D.state drive) (D.state back)) }
 
     // A good input is stored where no fault was counted, unless memory was refused.
-    ensures certain { (bytes : List ℕ) (end : ℕ) → AreDrainWords words.now → I.left input.old ≡ Some bytes → IsGood bytes end
+    ensures certain { (bytes : List ℕ) → AreDrainWords words.now → I.left input.old ≡ Some bytes → IsGood bytes
         → ¬ Rose (I.faults input.old) (I.faults input.new) → ¬ Rose (W.faults out.old) (W.faults out.new)
         → ¬ IsSomeAnd result.1 (λ back. Rose (D.state drive).faults (D.state back).faults) → (result.0 ≡ 0) ⊎ (result.0 ≡ 6) }
 
@@ -77,8 +77,10 @@ pub fn drain<I: Source, W: Sink, D: Drive + Drop, O: Origin>(
     ensures equal { (source bytes : List ℕ) → O.source (D.state drive).label ≡ Some source → I.left input.old ≡ Some bytes → IsHonest source (told_by bytes)
         → result.0 ≡ 0 → IsSomeAnd result.1 (λ back. Reads Bytes (IsFile source) (D.state drive) (D.state back)) }
 {
-    if !are_drain_words(words) {
-        return (refuse_words(out).number(), None);
+    match are_drain_words(alloc, words) {
+        Ok(true) => {}
+        Ok(false) => return (refuse_words(out).number(), None),
+        Err(OutOfMemory) => return (refuse_memory(out).number(), Some(drive)),
     }
     let (outcome, drive) = store_input(alloc, input, drive);
     (tell(alloc, out, &outcome).number(), Some(drive))
@@ -126,7 +128,7 @@ pub(crate) fn tell<W: Sink>(alloc: Global, out: &mut W, outcome: &Outcome) -> St
         Outcome::RangesFull { kept } => put_made(out, ranges_full_line(alloc, kept)),
         Outcome::ReadFailed => put(out, read_failed_line(), Status::ReadFailed),
         Outcome::DriveFailed => put(out, drive_failed_line(), Status::DriveFailed),
-        Outcome::OutOfMemory => put(out, out_of_memory_line(), Status::OutOfMemory),
+        Outcome::OutOfMemory => refuse_memory(out),
     }
 }
 
@@ -137,6 +139,13 @@ fn refuse_words<W: Sink>(out: &mut W) -> Status
     put(out, usage_line(), Status::Usage)
 }
 
+fn refuse_memory<W: Sink>(out: &mut W) -> Status
+    requires open { W.is_open out.old }
+    ensures { IsPut Status.OutOfMemory out_of_memory_text result (W.written out.old) (W.written out.new) (W.faults out.old) (W.faults out.new) }
+{
+    put(out, out_of_memory_line(), Status::OutOfMemory)
+}
+
 /// Puts the line of a refusal, or where memory for it was refused the line of that.
 fn put_made<W: Sink>(out: &mut W, made: Result<String, AllocError>) -> Status
     requires open { W.is_open out.old }
@@ -145,7 +154,7 @@ fn put_made<W: Sink>(out: &mut W, made: Result<String, AllocError>) -> Status
 {
     match made {
         Ok(line) => put(out, line.as_bytes(), Status::Refused),
-        Err(_) => put(out, out_of_memory_line(), Status::OutOfMemory),
+        Err(_) => refuse_memory(out),
     }
 }
 

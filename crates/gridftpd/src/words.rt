@@ -1,30 +1,39 @@
-ghost use Rattle.std.specs.Prelude.{◌≡◌, ◌↔◌, IsTrue};
-ghost use Rattle.gridftpd.specs.Words.{IsName, AreDrainWords, is_name_byte_of};
+ghost use Rattle.std.specs.Prelude.{◌↔◌, IsTrue, IfOk, OnErr};
+ghost use Rattle.gft_text.specs.Name.{IsName};
+ghost use Rattle.gridftpd.specs.Words.{AreDrainWords};
 
-/// Whether the words are `drain` and the name of a file.
-pub fn are_drain_words(words: &[String]) -> bool
-    ensures { IsTrue result ↔ AreDrainWords words.now }
+use gft_base::OutOfMemory;
+use gft_text::{NameError, read_name};
+use std::alloc::Global;
+
+/// Whether the words are `drain` and the name of a file. `OutOfMemory`, which right words alone can
+/// give, where the name can't be copied.
+pub fn are_drain_words(alloc: Global, words: &[String]) -> Result<bool, OutOfMemory>
+    ensures right { IfOk result (λ right. IsTrue right ↔ AreDrainWords words.now) }
+    ensures memory { OnErr result (AreDrainWords words.now) }
 {
     match words {
-        [verb, name] => verb.as_str() == "drain" && is_name(name.as_str().as_bytes()),
-        _ => false,
+        [verb, name] => {
+            if verb.as_str() != "drain" {
+                return Ok(false);
+            }
+            is_name(alloc, name.as_str().as_bytes())
+        }
+        _ => Ok(false),
     }
 }
 
-/// Whether the text names a file of the served folder: 1 to 200 letters, digits, `.`, `_` and `-`,
-/// not beginning with `.`, and not ending in `.gfr`, which names a file of ranges.
-fn is_name(text: &[u8]) -> bool
-    ensures { IsTrue result ↔ IsName text.now }
+/// Whether the text is the name of a file as it stands: a leading `/` is refused.
+fn is_name(alloc: Global, text: &[u8]) -> Result<bool, OutOfMemory>
+    ensures right { IfOk result (λ right. IsTrue right ↔ IsName text.now) }
+    ensures memory { OnErr result (IsName text.now) }
 {
-    !text.is_empty()
-        && text.len() <= 200
-        && text[0] != b'.'
-        && !text.ends_with(b".gfr")
-        && text.iter().all(|byte| is_name_byte(*byte))
-}
-
-fn is_name_byte(byte: u8) -> bool
-    ensures { result ≡ is_name_byte_of byte }
-{
-    byte.is_ascii_alphanumeric() || byte == b'.' || byte == b'_' || byte == b'-'
+    if text.starts_with(b"/") {
+        return Ok(false);
+    }
+    match read_name(alloc, text) {
+        Ok(_) => Ok(true),
+        Err(NameError::BadName { .. }) => Ok(false),
+        Err(NameError::OutOfMemory) => Err(OutOfMemory),
+    }
 }

@@ -1,5 +1,5 @@
 use Rattle.std.proofs.Common.{sym, ◌∙◌}
-use Rattle.gft_text.proofs.NameLemmas.{faults, names}
+use Rattle.gft_text.proofs.NameLemmas.{faults, names, refuses_memory}
 use Rattle.gft_text.proofs.name.read_name.Goals as goal
 
 pub invariant_of-result : goal.invariant_of-result
@@ -15,3 +15,8 @@ pub returns-in-Some-clause-refused : goal.returns-in-Some-clause-refused
 returns-in-Some-clause-refused c =
     let fault = rw c.without_slash-name.ensures at c.in-Some.ensures in
     (sym fault, λ legal. let none = names _ legal in cc)
+
+pub returns-in_err-from_slice-clause-refused : goal.returns-in_err-from_slice-clause-refused
+returns-in_err-from_slice-clause-refused c =
+    let legal = rw c.without_slash-name.ensures at (faults c.without_slash-name.result.now (sym c.in_default.ensures)) in
+    refuses_memory _ _ legal c.from_residual.ensures.1

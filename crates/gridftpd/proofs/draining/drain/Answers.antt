@@ -13,10 +13,10 @@ returns-clause-equal g c source bytes named left honest zero =
     stored_is_source source bytes stored.0 (g.I.Source.left c.args.input.now) (g.I.Source.left c.store_input-outcome.new.input) (state c.args.drive) (state c.store_input-outcome.result.1) left honest stored.1 (stored.3 complete)
 
 pub returns-clause-certain : goal.returns-clause-certain
-returns-clause-certain g c bytes end words left good no_read no_put no_drive =
+returns-clause-certain g c bytes words left good no_read no_put no_drive =
     let state = g.D.Drive.state in
     let stored = c.store_input-outcome.ensures.caused in
     subst (λ (n : ℕ). (n ≡ 0) ⊎ (n ≡ 6)) (sym c.number-2.ensures)
     (certain_of c.store_input-outcome.result.0 c.tell.result _ _ _ _ (Rose (g.I.Source.faults c.args.input.now) (g.I.Source.faults c.store_input-outcome.new.input)) (Rose (state c.args.drive).faults (state c.store_input-outcome.result.1).faults)
-    c.tell.ensures (refused_never bytes stored.0 (g.I.Source.left c.args.input.now) (g.I.Source.left c.store_input-outcome.new.input) end c.store_input-outcome.result.0 left good stored.1 stored.2)
+    c.tell.ensures (refused_never bytes stored.0 (g.I.Source.left c.args.input.now) (g.I.Source.left c.store_input-outcome.new.input) c.store_input-outcome.result.0 left good stored.1 stored.2)
     c.store_input-outcome.ensures.read_failed c.store_input-outcome.ensures.drive_failed no_read no_put no_drive)

@@ -1,9 +1,9 @@
-use Rattle.std.proofs.Common.{◌≡◌, sym, ap, subst}
+use Rattle.std.proofs.Common.{◌≡◌, [], sym, ap, subst}
 use Rattle.gft_drive.specs.Drive.{DriveState, Goes}
 use Rattle.gft_drive.proofs.Steps.{Goes-then}
 use Rattle.gft_keep.specs.declared.keep.Keep.{Keep}
 use Rattle.gridftpd.specs.Drain.{IsStored}
-use Rattle.gridftpd.proofs.EndLemmas.{is_false, stored_since, rose_since}
+use Rattle.gridftpd.proofs.EndLemmas.{is_false, nothing_taken, stored_since, rose_since}
 use Rattle.gridftpd.proofs.draining.store_input.Goals as goal
 
 pub returns-in-Err-clause-goes : goal.returns-in-Err-clause-goes
@@ -48,3 +48,9 @@ returns-clause-goes g c =
     (Goes-then (state c.args.drive) (state c.fresh.new.self.drive) (state c.run-outcome.new.self.keep.drive)
     (Goes-then (state c.args.drive) (state c.in-Ok-attach.keep.drive) (state c.fresh.new.self.drive) c.in-Ok-attach.ensures.goes c.fresh.ensures.goes)
     ran)
+
+pub returns-in-Err-Failed-default-clause-caused : goal.returns-in-Err-Failed-default-clause-caused
+returns-in-Err-Failed-default-clause-caused g c = ([], nothing_taken _, tt, λ same. cc)
+
+pub returns-in-Err-clause-caused : goal.returns-in-Err-clause-caused
+returns-in-Err-clause-caused g c = ([], nothing_taken _, tt, λ same. cc)

@@ -1,6 +1,6 @@
-use Rattle.std.proofs.Common.{true}
+use Rattle.std.proofs.Common.{true, refl}
 use Rattle.std.proofs.lemmas.Option.{none-some}
-use Rattle.gft_core.proofs.MachineLemmas.{on_ok, still_booked}
+use Rattle.gft_core.proofs.MachineLemmas.{on_ok, still_kept, still_booked}
 use Rattle.gft_core.proofs.ProgressLemmas.{Tells-block, Tells-mark}
 use Rattle.gft_core.proofs.machine.Core.step.Goals as goal
 
@@ -8,6 +8,7 @@ pub returns-then-unanswered-clause-stands : goal.returns-then-unanswered-clause-
 returns-then-unanswered-clause-stands c =
     rw (c.in-Block.is, c.if-unanswered.true)
     (λ events s. record {
+      bytes = λ x. still_kept _ _ (s.bytes x);
       booked = still_booked events _ s.booked;
       progress = Tells-block c.in-Block.lane c.in-Block.channel c.in-Block.offset c.in-Block.bytes true events _ s.progress;
     })
@@ -19,26 +20,27 @@ returns-in-Block-clause-stands c =
 pub returns-in-Eod-clause-stands : goal.returns-in-Eod-clause-stands
 returns-in-Eod-clause-stands c =
     rw (c.in-Eod.is, ← c.self.view_is)
-    (λ events s. record { booked = still_booked events _ s.booked; progress = c.eod.ensures c.in-Eod.lane events s.progress })
+    (λ events s. record { bytes = λ x. still_kept _ _ (s.bytes x); booked = still_booked events _ s.booked; progress = c.eod.ensures c.in-Eod.lane events s.progress })
 
 pub returns-in-Eof-clause-stands : goal.returns-in-Eof-clause-stands
 returns-in-Eof-clause-stands c =
     rw (c.in-Eof.is, ← c.self-in-Eof.view_is)
-    (λ events s. record { booked = still_booked events _ s.booked; progress = c.eof.ensures events s.progress })
+    (λ events s. record { bytes = λ x. still_kept _ _ (s.bytes x); booked = still_booked events _ s.booked; progress = c.eof.ensures events s.progress })
 
 pub returns-in-Mark-clause-stands : goal.returns-in-Mark-clause-stands
 returns-in-Mark-clause-stands c =
-    rw c.in-Mark.is (λ events s. record { booked = still_booked events _ s.booked; progress = Tells-mark events _ s.progress })
+    rw c.in-Mark.is (λ events s. record { bytes = λ x. still_kept _ _ (s.bytes x); booked = still_booked events _ s.booked; progress = Tells-mark events _ s.progress })
 
 pub returns-in-Fresh-clause-stands : goal.returns-in-Fresh-clause-stands
 returns-in-Fresh-clause-stands c =
     rw c.in-Fresh.is
     (λ events s. record {
-      booked = rw c.clear.ensures.ranges (λ x. (λ h. absurd h, λ b. absurd (none-some b.0 b.1)));
+      bytes = rw c.clear.ensures.items (λ x. refl);
+      booked = rw c.clear-in-Fresh.ensures.ranges (λ x. (λ h. absurd h, λ b. absurd (none-some b.0 b.1)));
       progress = c.begin-self-inside.ensures.fresh events;
     })
 
 pub returns-in-Resume-clause-stands : goal.returns-in-Resume-clause-stands
 returns-in-Resume-clause-stands c =
     rw (c.in-Resume.is, ← c.self-in-Resume.view_is)
-    (λ events s. record { booked = still_booked events _ s.booked; progress = c.begin-self-inside-in-Resume.ensures.resume c.in-Resume.list events })
+    (λ events s. record { bytes = λ x. still_kept _ _ (s.bytes x); booked = still_booked events _ s.booked; progress = c.begin-self-inside-in-Resume.ensures.resume c.in-Resume.list events })

@@ -1,9 +1,8 @@
-use Rattle.std.proofs.Common.{◌≡◌, ◌≢◌, ℕ, ◌<◌, ◌↔◌, ◌⊎◌, List, Option, Some, None, IsSome, Bool, true, false, sym, refl, subst, ap, ◌∙◌, inl, inr}
+use Rattle.std.proofs.Common.{◌≡◌, ◌≢◌, ◌⊎◌, List, Some, IsSome, true, false, sym, subst, ap, ◌∙◌, inl, inr}
 use Rattle.std.specs.Prelude.{IfSome, IfNone}
 use Rattle.gft_range.specs.declared.range.Range.{Range}
 use Rattle.gft_range.specs.FirstGap.{IsFirstGap, HasNoGap}
 use Rattle.gft_range.specs.Set.{KeptRanges}
-use Rattle.gridftpd.specs.Cause.{HasHole}
 use Rattle.gridftpd.proofs.EndLemmas.{hole_from, done_from, stored_from, below_end, is_none}
 use Rattle.gridftpd.proofs.intake.Intake.finish.Goals as goal
 use Rattle.gridftpd.proofs.intake.Intake.finish.Goals.{then-not-is_met-via-then-not-is_met, then-not-is_met-via-else-not-is_met+then-is_some}
@@ -25,7 +24,7 @@ returns-then-not-is_met-clause-caused g c start stream left follows done =
 pub returns-in-Ok-clause-caused : goal.returns-in-Ok-clause-caused
 returns-in-Ok-clause-caused g c start stream left follows done =
     let below = below_end c.args.self.now.keep.set c.ranges-2.result.now c.ranges-3.result.now c.end-end.result c.first_gap-missing.result c.ranges-2.ensures c.ranges-3.ensures (is_none c.first_gap-missing.result (sym c.is_some.ensures ∙ c.if-is_some.false)) c.first_gap-missing.ensures.none c.end-end.ensures.whole in
-    (c.end-end.result, done_from g.D.Drive.state start stream c.args.self.now c.end-end.result follows done (c.is_met.ensures.met.0 c.if-not-is_met.false) c.is_met.ensures.count below)
+    done_from g.D.Drive.state start stream c.args.self.now c.end-end.result follows done (c.is_met.ensures.met.0 c.if-not-is_met.false) c.is_met.ensures.count below
 
 pub returns-in-Ok-clause-complete : goal.returns-in-Ok-clause-complete
 returns-in-Ok-clause-complete g c start stream follows done complete =

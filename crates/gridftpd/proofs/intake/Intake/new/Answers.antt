@@ -18,6 +18,7 @@ returns-clause-follows g c =
       goes = Goes-refl (g.D.Drive.state c.args.keep.drive);
       whole = c.requires.whole;
       counted = record { total = c.new-2.ensures.total; eods = c.new-2.ensures.eods; agreed = λ total first. tt };
+      sound = tt;
       eods = refl;
       taken = c.new.ensures.taken;
       unfinished = λ zero. tt;

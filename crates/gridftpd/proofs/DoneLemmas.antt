@@ -1,0 +1,88 @@
+-- When the events of arrivals are done.
+use Rattle.std.proofs.Common.{◌≡◌, ℕ, ◌+◌, ◌<◌, ◌≤◌, ◌↔◌, List, [], ◌∷◌, Some, None, refl, sym, ap, ◌∙◌, arith}
+use Rattle.std.specs.Prelude.{Option}
+use Rattle.gft_base.specs.Arrival.{Arrival, At, Eof, Eod, Bad, Arrives, totals, eods}
+use Rattle.gft_core.specs.declared.event.CoreEvent.{CoreEvent}
+use Rattle.gft_core.specs.declared.event.CoreEvent.TheVariants as event
+use Rattle.gft_core.specs.Kept.{first}
+use Rattle.gft_core.specs.Done.{since, begun, total, AllPass, Done}
+use Rattle.gft_core.specs.Done as core
+use Rattle.gft_core.proofs.OptionLemmas.{first-none, first-assoc}
+use Rattle.gridftpd.specs.Events.{event_of, events_after, events_of}
+use Rattle.gridftpd.specs.Follows.{HasNoBad}
+use Rattle.gridftpd.specs.Totals.{first_of, AllAre}
+use Rattle.gridftpd.proofs.EventLemmas.{arrives_kept, kept_arrives}
+
+-- what a transfer that is done says of its arrivals
+pub record SaysDone (list : List Arrival) (end : ℕ) : Type 0 where
+  pub total : ℕ
+  pub announced : first_of (totals list) ≡ Some total
+  pub in_bounds : (1 ≤ total) × (total ≤ 1024)
+  pub no_other : AllAre total (totals list)
+  pub met : eods list ≡ total
+  pub whole : (x : ℕ) → Arrives list x ↔ (x < end)
+
+begun-after : (before : List CoreEvent) (list : List Arrival) → begun (events_after before list) ≡ begun before
+begun-after before [] = refl
+begun-after before (At offset value ∷ list) = begun-after (event_of (At offset value) ∷ before) list
+begun-after before (Eof n ∷ list) = begun-after (event_of (Eof n) ∷ before) list
+begun-after before (Eod ∷ list) = begun-after (event_of Eod ∷ before) list
+begun-after before (Bad refusal ∷ list) = begun-after (event_of (Bad refusal) ∷ before) list
+
+-- what announces no total
+still_total : (before : List CoreEvent) (rest : Option ℕ) → first (first (total (since before)) None) rest ≡ first (total (since before)) rest
+still_total before rest = ap (λ o. first o rest) (first-none (total (since before)))
+
+total-after : (before : List CoreEvent) (list : List Arrival) → total (since (events_after before list)) ≡ first (total (since before)) (first_of (totals list))
+total-after before [] = sym (first-none (total (since before)))
+total-after before (At offset value ∷ list) = total-after (event_of (At offset value) ∷ before) list ∙ still_total before (first_of (totals list))
+total-after before (Eof n ∷ list) = total-after (event_of (Eof n) ∷ before) list ∙ first-assoc (total (since before)) (Some n) (first_of (totals list))
+total-after before (Eod ∷ list) = total-after (event_of Eod ∷ before) list ∙ still_total before (first_of (totals list))
+total-after before (Bad refusal ∷ list) = total-after (event_of (Bad refusal) ∷ before) list ∙ still_total before (first_of (totals list))
+
+eods-after : (before : List CoreEvent) (list : List Arrival) → core.eods (since (events_after before list)) ≡ core.eods (since before) + eods list
+eods-after before [] = omega arith
+eods-after before (At offset value ∷ list) = omega (arith, eods-after (event_of (At offset value) ∷ before) list)
+eods-after before (Eof n ∷ list) = omega (arith, eods-after (event_of (Eof n) ∷ before) list)
+eods-after before (Eod ∷ list) = omega (arith, eods-after (event_of Eod ∷ before) list)
+eods-after before (Bad refusal ∷ list) = omega (arith, eods-after (event_of (Bad refusal) ∷ before) list)
+
+pass-after : (n : ℕ) (before : List CoreEvent) (list : List Arrival) → AllPass n (since before) → AllAre n (totals list) → HasNoBad list → AllPass n (since (events_after before list))
+pass-after n before [] pass all sound = pass
+pass-after n before (At offset value ∷ list) pass all sound = pass-after n (event_of (At offset value) ∷ before) list (pass, tt) all sound
+pass-after n before (Eof m ∷ list) pass all sound = pass-after n (event_of (Eof m) ∷ before) list (pass, all.0) all.1 sound
+pass-after n before (Eod ∷ list) pass all sound = pass-after n (event_of Eod ∷ before) list (pass, tt) all sound
+pass-after n before (Bad refusal ∷ list) pass all sound = absurd sound
+
+after-pass : (n : ℕ) (before : List CoreEvent) (list : List Arrival) → AllPass n (since (events_after before list)) → AllPass n (since before) × AllAre n (totals list)
+after-pass n before [] pass = (pass, tt)
+after-pass n before (At offset value ∷ list) pass = let rest = after-pass n (event_of (At offset value) ∷ before) list pass in (rest.0.0, rest.1)
+after-pass n before (Eof m ∷ list) pass = let rest = after-pass n (event_of (Eof m) ∷ before) list pass in (rest.0.0, (rest.0.1, rest.1))
+after-pass n before (Eod ∷ list) pass = let rest = after-pass n (event_of Eod ∷ before) list pass in (rest.0.0, rest.1)
+after-pass n before (Bad refusal ∷ list) pass = let rest = after-pass n (event_of (Bad refusal) ∷ before) list pass in absurd rest.0.1
+
+pub done_of : (list : List Arrival) (end : ℕ) → HasNoBad list → SaysDone list end → Done (events_of list)
+done_of list end sound says =
+    let fresh : List CoreEvent = event.Fresh ∷ [] in
+    record {
+      begun = begun-after fresh list;
+      number = says.total;
+      total = total-after fresh list ∙ says.announced;
+      in_bounds = says.in_bounds;
+      met = omega (arith, eods-after fresh list, says.met);
+      passes = pass-after says.total fresh list tt says.no_other sound;
+      whole = (end, λ x. (λ booked. (says.whole x).0 (kept_arrives list x booked.0 booked.1), λ lt. arrives_kept list x ((says.whole x).1 lt)));
+    }
+
+pub says_done : (list : List Arrival) → (done : Done (events_of list)) → SaysDone list done.whole.0
+says_done list done =
+    let fresh : List CoreEvent = event.Fresh ∷ [] in
+    let whole = done.whole.1 in
+    record {
+      total = done.number;
+      announced = sym (total-after fresh list) ∙ done.total;
+      in_bounds = done.in_bounds;
+      no_other = (after-pass done.number fresh list done.passes).1;
+      met = omega (arith, eods-after fresh list, done.met);
+      whole = λ x. (λ came. (whole x).0 (arrives_kept list x came), λ lt. let booked = (whole x).1 lt in kept_arrives list x booked.0 booked.1);
+    }
