@@ -167,18 +167,35 @@ impl RangeSet {
     }
 }
 
+impl RangeSet {
+    /// The normal list.
+    pub(crate) fn as_slice(&self) -> &[Range]
+        ensures ranges { result.now ≡ self.now.ranges }
+        ensures normal { IsNormal self.now.ranges }
+    {
+        &self.ranges
+    }
+
+    /// The allocator of the list.
+    pub(crate) fn allocator(&self) -> Global {
+        *self.ranges.allocator()
+    }
+}
+
 /// The place of the first range that ends at `start` or above it, or the number of ranges.
 fn first_reaching(ranges: &[Range], start: u64) -> usize
+    requires { IsNormal ranges.now }
     ensures within { result ≤ length ranges.now }
     ensures before { EndsBelow start (take result ranges.now) }
     ensures from { Reaches start (drop result ranges.now) }
 {
-    for (i, range) in ranges.iter().enumerate() {
-        if range.end >= start {
-            return i;
-        }
+    let Some(last) = ranges.last() else {
+        return 0;
+    };
+    if last.end < start {
+        return ranges.len();
     }
-    ranges.len()
+    ranges.partition_point(|range| range.end < start)
 }
 
 /// Removes the ranges from `at` on that touch `r`, and gives `r` joined with them.
