@@ -1,3 +1,4 @@
+pub mod DigitLemmas
 pub mod FirstGapLemmas
 pub mod GapLemmas
 pub mod JoinLemmas
