@@ -8,3 +8,4 @@ pub mod OffsetLemmas
 pub mod SearchLemmas
 pub mod TouchLemmas
 pub mod UnionLemmas
+pub mod WholeLemmas

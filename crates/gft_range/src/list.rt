@@ -74,7 +74,7 @@ impl RangeSet {
         ensures read { IfOk result (λ text. IsList text.items self.now.ranges) }
         ensures normal { IsNormal self.now.ranges }
     {
-        write_ranges(self.allocator(), self.as_slice())
+        write_ranges(*self.ranges.allocator(), &self.ranges)
     }
 }
 

@@ -1,4 +1,4 @@
-use Rattle.std.proofs.Common.{◌≡◌, ℕ, ◌<◌, ◌≤◌, take, length, get_or, arith}
+use Rattle.std.proofs.Common.{take, get_or, arith}
 use Rattle.std.proofs.lemmas.List.{take_more}
 use Rattle.gft_range.proofs.DigitLemmas.{AreDigits-push, value_of-push, value_of-room, digit_at}
 use Rattle.gft_range.proofs.list.read_end.Goals as goal
