@@ -1,7 +1,11 @@
+pub mod DigitLemmas
 pub mod FirstGapLemmas
 pub mod GapLemmas
 pub mod JoinLemmas
+pub mod ListLemmas
 pub mod NormalLemmas
 pub mod OffsetLemmas
+pub mod SearchLemmas
 pub mod TouchLemmas
 pub mod UnionLemmas
+pub mod WholeLemmas
