@@ -53,6 +53,7 @@ impl RangeSet {
         ensures list { IfOk result (λ set. IsList text.now set.ranges) }
         ensures refused { IfErr result (Refuses text.now) }
         ensures none { IfErr result (HasNoList text.now) }
+        ensures normal { IfOk result (λ set. IsNormal set.ranges) }
     {
         let items = count_items(text);
         if items > MOST_ITEMS {
