@@ -1,6 +1,7 @@
 ghost use Rattle.std.specs.Prelude.{◌≡◌, ◌++◌, ◌∷◌, ◌↔◌, [], length, slice_get, IsTrue, IfOk, OnOk, OnErr};
 ghost use Rattle.gft_opts.specs.Targets.{FitsTargets};
 
+use crate::laws::host_port_fits;
 use crate::targets::MOST_TARGETS;
 use gft_base::OutOfMemory;
 use gft_text::HostPort;
@@ -15,11 +16,15 @@ pub struct HostPorts {
 
 impl Model for HostPorts {
     ghost use Rattle.std.specs.Prelude.{List};
+    ghost use Rattle.std.specs.List.{AllByRecursion};
+    ghost use Rattle.gft_text.specs.HostPort.{FitsHostPort};
     ghost use Rattle.gft_text.specs.declared.host_port.HostPort.{HostPort};
 
     ghost Value = { List HostPort };
 
     ghost view = { λ h. h.addresses.items };
+
+    ghost invariant = { λ h. AllByRecursion FitsHostPort h.addresses.items };
 }
 
 impl HostPorts {
@@ -46,6 +51,7 @@ impl HostPorts {
         ensures ok { OnOk result (self.new ≡ self.old ++ at ∷ []) }
         ensures err { OnErr result (self.new ≡ self.old) }
     {
+        host_port_fits(&at);
         self.addresses.push(at)?;
         Ok(())
     }

@@ -1,6 +1,7 @@
 //! What holds of every text. A law is a function with an empty body; whoever calls it knows it.
 
 ghost use Rattle.std.specs.Prelude.{◌≡◌, ℕ, List};
+ghost use Rattle.gft_text.specs.HostPort.{FitsHostPort};
 ghost use Rattle.gft_text.specs.declared.host_port.HostPort.{HostPort};
 ghost use Rattle.gft_opts.specs.Retr.{FitsRetr, IsRetr, retr_text};
 ghost use Rattle.gft_opts.specs.Targets.{FitsTargets, IsTargets, targets_text};
@@ -9,12 +10,22 @@ ghost use Rattle.gft_opts.specs.declared.retr.RetrOptions.{RetrOptions};
 ghost use Rattle.gft_opts.specs.declared.part.Eret.{Eret};
 ghost use Rattle.gft_opts.specs.declared.part.Esto.{Esto};
 
+use gft_text::HostPort;
+
 /// Options that fit are read again from their text, only such are read, and no text is two.
 pub fn retr_has_one_value()
     ensures written { (options : RetrOptions) → FitsRetr options → IsRetr (retr_text options) options }
     ensures fits { (text : List ℕ) (options : RetrOptions) → IsRetr text options → FitsRetr options }
     ensures one { (text : List ℕ) (a b : RetrOptions) → IsRetr text a → IsRetr text b → a ≡ b }
 {}
+
+/// An address is of four bytes and a port, whatever it is.
+pub fn host_port_fits(at: &HostPort)
+    ensures { FitsHostPort at.now }
+{
+    let [_a, _b, _c, _d] = at.host;
+    let _port = at.port;
+}
 
 /// Targets that fit are read again from their text, only such are read, and no text is two.
 pub fn targets_have_one_value()

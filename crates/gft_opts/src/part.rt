@@ -114,6 +114,7 @@ impl Eret {
     pub fn fits(&self) -> bool
         ensures { IsTrue result ↔ FitsEret self.now }
     {
+        let _any_size = self.size;
         self.offset <= LIMIT && is_path(self.path.bytes())
     }
 }

@@ -1,8 +1,9 @@
-ghost use Rattle.std.specs.Prelude.{◌≡◌, ℕ, MatchOption};
+ghost use Rattle.std.specs.Prelude.{◌≤◌, ◌↔◌, ℕ, IsTrue, MatchOption};
 ghost use Rattle.gft_opts.specs.Setting.{IsBlockSize, IsKey, IsLayoutName, IsParallelism, IsSetting};
 ghost use Rattle.gft_opts.specs.declared.setting.Key.{Key};
 ghost use Rattle.gft_opts.specs.declared.setting.LayoutName.{LayoutName};
 ghost use Rattle.gft_opts.specs.declared.setting.Setting.{Setting};
+ghost use Rattle.gft_opts.specs.declared.setting.TheConstants.{MOST_PARALLEL};
 
 use gft_base::{LIMIT, read_decimal, split_first, split_word};
 use gft_text::{Entry, Table};
@@ -115,8 +116,14 @@ fn read_parallelism(text: &[u8]) -> Option<u16>
     let (start, behind) = split_first(text, b',');
     let (least, most) = split_first(behind?, b',');
     let (start, least, most) = (read_decimal(start)?, read_decimal(least)?, read_decimal(most?)?);
-    if least < 1 || start < least || most < start || most > u64::from(MOST_PARALLEL) {
+    if !are_ordered(least, start, most) {
         return None;
     }
     Some(start as u16)
+}
+
+fn are_ordered(least: u64, start: u64, most: u64) -> bool
+    ensures { IsTrue result ↔ ((1 ≤ least) × (least ≤ start) × (start ≤ most) × (most ≤ MOST_PARALLEL)) }
+{
+    1 <= least && least <= start && start <= most && most <= u64::from(MOST_PARALLEL)
 }
