@@ -1,5 +1,6 @@
 -- Options of RETR in text.
-use Rattle.std.proofs.Common.{◌≡◌, ℕ, ◌+◌, ◌<◌, ◌≤◌, ◌⊎◌, Bool, true, false, not, eqb, List, [], ◌∷◌, ◌++◌, length, length-append, length-drop, take, drop, Option, Some, None, map, inl, inr, refl, sym, ap, ◌∙◌, append_assoc, arith, lit<}
+use Rattle.std.proofs.Common.{◌≡◌, ℕ, ◌+◌, ◌<◌, ◌≤◌, ◌⊎◌, Bool, true, false, not, eqb, List, [], ◌∷◌, ◌++◌, length, length-append, length-drop, take, drop, Option, Some, None, map, codes, inl, inr, refl, sym, ap, ◌∙◌, append_assoc, arith, lit<}
+use Rattle.std.specs.Fmt.{decimal}
 use Rattle.std.proofs.Math.ListN.{drop_of_length-le}
 use Rattle.std.proofs.Math.Seq.{take-length}
 use Rattle.std.specs.List.{AllZip, AllByRecursion, position, flat_map, before_first, after_first}
@@ -268,3 +269,11 @@ pub fits : (text : List ℕ) (options : RetrOptions) → IsRetr text options →
 fits text options is =
     let all = all_fit (items_of text) is.settings is.read in
     record { layout = layout_is_fit options.layout is.settings all is.blocks_are; parallel = parallel_is_fit options.parallel is.settings all is.starts_are }
+
+-- ---- what the writer writes
+
+pub blocked_text : (layout : Layout) (block : ℕ) → layout ≡ layouts.Blocked block → settings_text (layout_settings (Some layout)) ≡ codes "StripeLayout=Blocked;BlockSize=" ++ (decimal block ++ 59 ∷ [])
+blocked_text layout block is = rw (is, append-nil) refl
+
+pub parallel_text : (parallel : Option ℕ) (start : ℕ) → parallel ≡ Some start → settings_text (parallel_settings parallel) ≡ codes "Parallelism=" ++ (decimal start ++ 44 ∷ (decimal start ++ 44 ∷ (decimal start ++ 59 ∷ [])))
+parallel_text parallel start is = rw is (simp (append_assoc, append-nil))

@@ -80,6 +80,14 @@ three_read text start a least most n one two is = record {
   limited = is.limited;
 }
 
+-- the numbers that were read are in order
+pub three_ordered : (start least most : List ℕ) (n s l m : ℕ) → Three start least most n → IsNumber start s → IsNumber least l → IsNumber most m → (1 ≤ l) × (l ≤ s) × (s ≤ m) × (m ≤ MOST_PARALLEL)
+three_ordered start least most n s l m three is_s is_l is_m =
+    let start_is = IsNumber-one start n s three.start_is is_s in
+    let least_is = IsNumber-one least three.low l three.least_is is_l in
+    let most_is = IsNumber-one most three.high m three.most_is is_m in
+    (omega (arith, three.some), omega (arith, three.above), omega (arith, three.below), omega (arith, three.limited))
+
 -- ---- no item has two values
 
 IsParallelism-one : (text : List ℕ) (m n : ℕ) → IsParallelism text m → IsParallelism text n → m ≡ n

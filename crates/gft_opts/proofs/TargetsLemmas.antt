@@ -1,7 +1,8 @@
 -- Targets in text.
-use Rattle.std.proofs.Common.{◌≡◌, ℕ, ◌+◌, ◌/◌, ◌%◌, ◌<◌, ◌≤◌, ◌^◌, eqb, false, List, [], ◌∷◌, ◌++◌, length, length-append, map, refl, arith, lit<}
+use Rattle.std.proofs.Common.{◌≡◌, ℕ, ◌+◌, ◌/◌, ◌%◌, ◌<◌, ◌≤◌, ◌^◌, eqb, false, List, [], ◌∷◌, ◌++◌, length, length-append, map, refl, sym, ap, ◌∙◌, arith, lit<}
 use Rattle.std.specs.Fmt.{decimal}
-use Rattle.std.specs.List.{AllZip, AllByRecursion, All, join_with_byte}
+use Rattle.std.specs.List.{AllZip, AllByRecursion, All, flat_map, join_with_byte}
+use Rattle.std.proofs.lemmas.List.{append-nil}
 use Rattle.gft_base.specs.Parts.{parts_at, Lacks}
 use Rattle.gft_base.proofs.PartsLemmas.{parts_some}
 use Rattle.gft_base.proofs.NumberLemmas.{IsNumber-decimal, digits_apart}
@@ -75,3 +76,24 @@ fits text targets is = record {
 
 pub one : (text : List ℕ) (a b : List HostPort) → IsTargets text a → IsTargets text b → a ≡ b
 one text a b is_a is_b = AllZip-one IsHostPort IsHostPort-one (parts_at 32 text) a b is_a.read is_b.read
+
+-- ---- the loops
+
+-- each part was read
+pub all_read : (text : List ℕ) (done : List (List ℕ)) (targets : List HostPort) → parts_at 32 text ≡ done ++ [] → AllZip IsHostPort done targets → length (parts_at 32 text) ≤ 16 → IsTargets text targets
+all_read text done targets same read few =
+    let whole = rw append-nil at same in
+    let all : AllZip IsHostPort (parts_at 32 text) targets = rw whole read in
+    record { read = all; few = omega (arith, few, AllZip-length IsHostPort (parts_at 32 text) targets all) }
+
+-- the addresses behind the first one, each with a space before it
+abbrev pub spaced : List HostPort → List ℕ
+spaced targets = flat_map (λ at. 32 ∷ host_port_text at) targets
+
+pub text_spaced : (at : HostPort) (targets : List HostPort) → targets_text (at ∷ targets) ≡ host_port_text at ++ spaced targets
+text_spaced at [] = rw append-nil refl
+text_spaced at (next ∷ targets) = ap (λ (x : List ℕ). host_port_text at ++ 32 ∷ x) (text_spaced next targets)
+
+pub whole_text : (targets : List HostPort) (at : HostPort) (others : List HostPort) (begun text : List ℕ) → targets ≡ at ∷ others → begun ≡ host_port_text at → text ≡ begun ++ spaced others → text ≡ targets_text targets
+whole_text targets at others begun text is begun_is text_is =
+    text_is ∙ ap (λ (x : List ℕ). x ++ spaced others) begun_is ∙ sym (text_spaced at others) ∙ ap (λ (x : List HostPort). targets_text x) (sym is)

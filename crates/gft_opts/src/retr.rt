@@ -1,4 +1,4 @@
-ghost use Rattle.std.specs.Prelude.{◌≡◌, ◌++◌, ◌↔◌, IsTrue, IsOkUnless, IfOk, OnOk, OnErr};
+ghost use Rattle.std.specs.Prelude.{◌≡◌, ◌++◌, ◌↔◌, IsTrue, IsOkUnless, Some, IfOk, OnOk, OnErr};
 ghost use Rattle.std.specs.String.{string_bytes};
 ghost use Rattle.gft_opts.specs.Retr.{FitsLayout, FitsParallel, FitsRetr, IsRetr, layout_settings, parallel_settings, retr_text, settings_text};
 ghost use Rattle.gft_opts.specs.declared.error.OptsError.TheVariants as errors;
@@ -89,15 +89,18 @@ fn write_layout(text: &mut String, layout: Option<Layout>) -> Result<(), OutOfMe
 {
     match layout {
         None => Ok(()),
-        Some(Layout::Partitioned) => {
-            write!(text, "StripeLayout=Partitioned;")?;
-            Ok(())
-        }
-        Some(Layout::Blocked { block }) => {
-            write!(text, "StripeLayout=Blocked;BlockSize={block};")?;
-            Ok(())
-        }
+        Some(layout) => write_named(text, layout),
     }
+}
+
+fn write_named(text: &mut String, layout: Layout) -> Result<(), OutOfMemory>
+    ensures { OnOk result (string_bytes text.new ≡ string_bytes text.old ++ settings_text (layout_settings (Some layout))) }
+{
+    match layout {
+        Layout::Partitioned => write!(text, "StripeLayout=Partitioned;")?,
+        Layout::Blocked { block } => write!(text, "StripeLayout=Blocked;BlockSize={block};")?,
+    }
+    Ok(())
 }
 
 fn write_parallel(text: &mut String, parallel: Option<u16>) -> Result<(), OutOfMemory>

@@ -1,6 +1,5 @@
-use Rattle.std.proofs.Common.{◌≡◌, refl, arith}
-use Rattle.gft_base.proofs.NumberLemmas.{IsNumber-one}
-use Rattle.gft_opts.proofs.SettingLemmas.{three_numbers, three_read}
+use Rattle.std.proofs.Common.{refl}
+use Rattle.gft_opts.proofs.SettingLemmas.{three_numbers, three_ordered, three_read}
 use Rattle.gft_opts.proofs.setting.read_parallelism.Goals as goal
 
 pub returns-in_err-most-2 : goal.returns-in_err-most-2
@@ -15,10 +14,7 @@ returns-then-not-are_ordered c = λ start is.
     let one = rw c.in_ok-behind.was at c.split_first.ensures.parts in
     let two = rw c.in_ok-most.was at c.split_first-2.ensures.parts in
     let three = three_numbers c.args.text.now _ c.in_ok-behind.field-0.now _ c.in_ok-most.field-0.now start one two is in
-    let start_is : start ≡ c.in_ok-start.start = IsNumber-one _ _ _ three.start_is c.in_ok-start.ensures in
-    let least_is : three.low ≡ c.in_ok-least.least = IsNumber-one _ _ _ three.least_is c.in_ok-least.ensures in
-    let most_is : three.high ≡ c.in_ok-most-2.most = IsNumber-one _ _ _ three.most_is c.in_ok-most-2.ensures in
-    absurd (cc (c.if-not-are_ordered.ensures.1 (omega (arith, three.some), omega (arith, three.above), omega (arith, three.below), omega (arith, three.limited))))
+    absurd (cc (c.if-not-are_ordered.ensures.1 (three_ordered _ _ _ start _ _ _ three c.in_ok-start.ensures c.in_ok-least.ensures c.in_ok-most-2.ensures)))
 
 pub returns : goal.returns
 returns c =
