@@ -1,0 +1,42 @@
+-- Which replies are markers, and how markers are written (GFD.20: restart markers and performance markers).
+use Rattle.std.specs.Prelude.{◌≡◌, ℕ, ◌/◌, ◌%◌, ◌<◌, ◌^◌, List, [], ◌∷◌, ◌++◌, codes, decimal}
+use Rattle.gft_base.specs.Number.{IsNumber}
+use Rattle.gft_mark.specs.Fields.{IsShortNumber, IsTimestamp, States}
+use Rattle.gft_mark.specs.declared.perf.Perf.{Perf}
+use Rattle.gft_reply.specs.declared.reply.Reply.{Reply}
+
+-- six lines of code 112: their name, four values, and the end with any text behind it
+pub record IsPerfMarker (reply : Reply) (perf : Perf) : Type 0 where
+  pub timestamp : List ℕ
+  pub index : List ℕ
+  pub transferred : List ℕ
+  pub count : List ℕ
+  pub ending : List ℕ
+  pub code : reply.code ≡ 112
+  pub lines : reply.lines ≡ codes "Perf Marker" ∷ timestamp ∷ index ∷ transferred ∷ count ∷ (codes "End" ++ ending) ∷ []
+  pub tenths : States (codes "Timestamp:") IsTimestamp timestamp perf.tenths
+  pub stripe : States (codes "Stripe Index:") IsShortNumber index perf.stripe
+  pub bytes : States (codes "Stripe Bytes Transferred:") IsNumber transferred perf.bytes
+  pub stripes : States (codes "Total Stripe Count:") IsShortNumber count perf.stripes
+
+-- the seconds, a point, and the last digit of the tenths
+abbrev pub timestamp_text : ℕ → List ℕ
+timestamp_text tenths = decimal (tenths / 10) ++ 46 ∷ decimal (tenths % 10)
+
+-- the lines of a written performance marker
+abbrev pub perf_lines : Perf → List (List ℕ)
+perf_lines perf =
+    codes "Perf Marker"
+    ∷ (codes "Timestamp: " ++ timestamp_text perf.tenths)
+    ∷ (codes "Stripe Index: " ++ decimal perf.stripe)
+    ∷ (codes "Stripe Bytes Transferred: " ++ decimal perf.bytes)
+    ∷ (codes "Total Stripe Count: " ++ decimal perf.stripes)
+    ∷ codes "End"
+    ∷ []
+
+-- the values fit their fields
+pub record FitsPerf (perf : Perf) : Type 0 where
+  pub tenths : perf.tenths < 2 ^ 64
+  pub stripe : perf.stripe < 2 ^ 16
+  pub bytes : perf.bytes < 2 ^ 64
+  pub stripes : perf.stripes < 2 ^ 16
