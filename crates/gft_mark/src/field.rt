@@ -1,9 +1,18 @@
-ghost use Rattle.std.specs.Prelude.{◌≡◌, ℕ, List, MatchOption};
+ghost use Rattle.std.specs.Prelude.{◌≡◌, ◌<◌, ℕ, List, [], length, slice_index_or, MatchOption};
 ghost use Rattle.gft_base.specs.Number.{IsNumber};
 ghost use Rattle.gft_mark.specs.Fields.{IsField, IsShortNumber, IsTimestamp, Skips, States};
 
 use crate::value::{read_short, read_tenths};
 use gft_base::{read_decimal, strip_front};
+use gft_reply::ReplyLines;
+
+/// The text of the line at this place.
+pub(crate) fn line_at(lines: &ReplyLines, at: usize) -> &[u8]
+    requires { at < length lines.now }
+    ensures { result.now ≡ slice_index_or lines.now at [] }
+{
+    lines.nth(at).unwrap()
+}
 
 /// The tenths of a second that the line states under this name.
 pub(crate) fn stated_tenths(line: &[u8], name: &[u8]) -> Option<u64>

@@ -1,15 +1,15 @@
-ghost use Rattle.std.specs.Prelude.{◌≡◌, ◌+◌, ◌<◌, ℕ, List, length, get_or, IfOk, MatchOption, slice_index_or, []};
+ghost use Rattle.std.specs.Prelude.{◌≡◌, IfOk, MatchOption};
 ghost use Rattle.gft_mark.specs.Markers.{IsPerfMarker, perf_lines};
 ghost use Rattle.gft_mark.specs.declared.perf.Perf.{Perf};
 ghost use Rattle.gft_reply.specs.Written.{Fits};
 
-use crate::field::{stated_number, stated_short, stated_tenths};
+use crate::field::{line_at, stated_number, stated_short, stated_tenths};
 use gft_base::{OutOfMemory, strip_front};
 use gft_reply::{Reply, ReplyLines};
 use std::alloc::Global;
 
 /// The code of a performance marker.
-pub(crate) const PERF_CODE: u16 = 112;
+const PERF_CODE: u16 = 112;
 
 /// How far one stripe of a transfer has come.
 #[derive(Clone, Copy, Debug, PartialEq, Eq)]
@@ -74,12 +74,4 @@ pub(crate) fn read_perf(reply: &Reply) -> Option<Perf>
         bytes: stated_number(line_at(lines, 3), b"Stripe Bytes Transferred:")?,
         stripes: stated_short(line_at(lines, 4), b"Total Stripe Count:")?,
     })
-}
-
-/// The text of the line at this place.
-fn line_at(lines: &ReplyLines, at: usize) -> &[u8]
-    requires { at < length lines.now }
-    ensures { result.now ≡ slice_index_or lines.now at [] }
-{
-    lines.nth(at).unwrap()
 }
