@@ -1,5 +1,5 @@
 -- Values that lines state.
-use Rattle.std.proofs.Common.{◌≡◌, ◌≢◌, ℕ, List, [], ◌∷◌, ◌++◌, ◌-◌, ◌≤◌, length, take, drop, append_assoc, arith, get_or, refl, Option, Some, None, sym, ap, subst, ◌∙◌}
+use Rattle.std.proofs.Common.{◌≡◌, ℕ, List, [], ◌∷◌, ◌++◌, ◌-◌, ◌≤◌, length, take, drop, append_assoc, arith, get_or, refl, Option, Some, None, sym, ap, subst, ◌∙◌}
 use Rattle.std.specs.Option.{MatchOption}
 use Rattle.std.proofs.lemmas.List.{append_cancel_left, take_all}
 use Rattle.gft_mark.specs.Fields.{AreSpaces, BeginsApart, IsField, Skips, States}

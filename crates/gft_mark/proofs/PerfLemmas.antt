@@ -1,16 +1,16 @@
 -- Performance markers.
-use Rattle.std.proofs.Common.{◌≡◌, ℕ, ◌+◌, ◌*◌, ◌/◌, ◌%◌, ◌<◌, ◌≤◌, ◌^◌, true, false, not, eqb, List, [], ◌∷◌, ◌++◌, get_or, length, length-append, append-nil, refl, sym, ap, ◌∙◌, lit<, subst, arith}
+use Rattle.std.proofs.Common.{◌≡◌, ℕ, ◌/◌, ◌%◌, ◌<◌, ◌≤◌, ◌^◌, true, false, not, eqb, List, [], ◌∷◌, ◌++◌, get_or, length, length-append, append-nil, refl, sym, ap, ◌∙◌, lit<, subst, arith}
 use Rattle.std.specs.Prelude.{codes, decimal}
-use Rattle.std.specs.List.{AllByRecursion, list_all}
+use Rattle.std.specs.List.{list_all}
 use Rattle.std.proofs.lemmas.Fmt.{length-decimal-le}
 use Rattle.std.proofs.lemmas.Bool.{not-true}
-use Rattle.std.proofs.lemmas.List.Elements.{All-append, All-cons, All-nil, All-weaker}
+use Rattle.std.proofs.lemmas.List.Elements.{All-append, All-cons, All-weaker}
 use Rattle.std.proofs.lemmas.List.Sums.{AllPass-from_list_all}
 use Rattle.gft_base.specs.Number.{IsNumber}
 use Rattle.gft_base.specs.Parts.{Lacks}
 use Rattle.gft_base.proofs.NumberLemmas.{IsNumber-decimal, IsNumber-one, digits_apart}
 use Rattle.gft_reply.specs.declared.reply.Reply.{Reply}
-use Rattle.gft_reply.specs.Written.{Fits, IsWritable, written_lines, written_line}
+use Rattle.gft_reply.specs.Written.{Fits, IsWritable, written_line}
 use Rattle.gft_reply.proofs.FitsLemmas.{writable}
 use Rattle.gft_mark.specs.declared.perf.Perf.{Perf}
 use Rattle.gft_mark.specs.Fields.{BeginsApart, IsShortNumber, IsTimestamp, States}
@@ -45,7 +45,6 @@ IsPerfMarker-written perf fits = record {
 }
 
 -- ---- what is written has a text
-
 
 pub literal-lacks : (text : List ℕ) → list_all (λ b. not (eqb b 10)) text ≡ true → Lacks 10 text
 literal-lacks text test =
@@ -83,12 +82,23 @@ Fits-perf perf fits = record {
   few = omega arith;
   lines = (
     writable true false 112 4 (codes "Perf Marker") refl (literal-lacks (codes "Perf Marker") refl) (omega arith),
-    (inner-written (codes "Timestamp: ") (timestamp_text perf.tenths) refl (omega arith) (timestamp-lacks perf.tenths fits.tenths) (omega (arith, timestamp-short perf.tenths fits.tenths)),
-    (inner-written (codes "Stripe Index: ") (decimal perf.stripe) refl (omega arith) (decimal-lacks perf.stripe (omega (arith, fits.stripe))) (omega (arith, decimal-short perf.stripe (omega (arith, fits.stripe)))),
-    (inner-written (codes "Stripe Bytes Transferred: ") (decimal perf.bytes) refl (omega arith) (decimal-lacks perf.bytes fits.bytes) (omega (arith, decimal-short perf.bytes fits.bytes)),
-    (inner-written (codes "Total Stripe Count: ") (decimal perf.stripes) refl (omega arith) (decimal-lacks perf.stripes (omega (arith, fits.stripes))) (omega (arith, decimal-short perf.stripes (omega (arith, fits.stripes)))),
-    (writable false true 112 4 (codes "End") refl (literal-lacks (codes "End") refl) (omega arith),
-    tt))))));
+    (
+      inner-written (codes "Timestamp: ") (timestamp_text perf.tenths) refl (omega arith) (timestamp-lacks perf.tenths fits.tenths) (omega (arith, timestamp-short perf.tenths fits.tenths)),
+      (
+        inner-written (codes "Stripe Index: ") (decimal perf.stripe) refl (omega arith) (decimal-lacks perf.stripe (omega (arith, fits.stripe))) (omega (arith, decimal-short perf.stripe (omega (arith, fits.stripe)))),
+        (
+          inner-written (codes "Stripe Bytes Transferred: ") (decimal perf.bytes) refl (omega arith) (decimal-lacks perf.bytes fits.bytes) (omega (arith, decimal-short perf.bytes fits.bytes)),
+          (
+            inner-written (codes "Total Stripe Count: ") (decimal perf.stripes) refl (omega arith) (decimal-lacks perf.stripes (omega (arith, fits.stripes))) (omega (arith, decimal-short perf.stripes (omega (arith, fits.stripes)))),
+            (
+              writable false true 112 4 (codes "End") refl (literal-lacks (codes "End") refl) (omega arith),
+              tt,
+            ),
+          ),
+        ),
+      ),
+    ),
+  );
 }
 
 -- ---- one value
@@ -115,10 +125,10 @@ IsPerfMarker-one reply a b is_a is_b =
     let transferred : is_a.transferred ≡ is_b.transferred = cc in
     let count : is_a.count ≡ is_b.count = cc in
     same_perf a b
-      (stated-one (codes "Timestamp:") _ _ IsTimestamp a.tenths b.tenths IsTimestamp-one timestamp is_a.tenths is_b.tenths)
-      (stated-one (codes "Stripe Index:") _ _ IsShortNumber a.stripe b.stripe IsShortNumber-one index is_a.stripe is_b.stripe)
-      (stated-one (codes "Stripe Bytes Transferred:") _ _ IsNumber a.bytes b.bytes IsNumber-one transferred is_a.bytes is_b.bytes)
-      (stated-one (codes "Total Stripe Count:") _ _ IsShortNumber a.stripes b.stripes IsShortNumber-one count is_a.stripes is_b.stripes)
+    (stated-one (codes "Timestamp:") _ _ IsTimestamp a.tenths b.tenths IsTimestamp-one timestamp is_a.tenths is_b.tenths)
+    (stated-one (codes "Stripe Index:") _ _ IsShortNumber a.stripe b.stripe IsShortNumber-one index is_a.stripe is_b.stripe)
+    (stated-one (codes "Stripe Bytes Transferred:") _ _ IsNumber a.bytes b.bytes IsNumber-one transferred is_a.bytes is_b.bytes)
+    (stated-one (codes "Total Stripe Count:") _ _ IsShortNumber a.stripes b.stripes IsShortNumber-one count is_a.stripes is_b.stripes)
 
 -- ---- what is read
 

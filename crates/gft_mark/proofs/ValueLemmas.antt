@@ -1,11 +1,11 @@
 -- Timestamps and numbers of 16 bits.
-use Rattle.std.proofs.Common.{◌≡◌, ◌≢◌, ℕ, ◌+◌, ◌-◌, ◌*◌, ◌/◌, ◌%◌, ◌<◌, ◌≤◌, ◌^◌, List, [], ◌∷◌, ◌++◌, length, get_or, eqb, false, Option, Some, None, refl, sym, ap, ◌∙◌, lit<, arith}
+use Rattle.std.proofs.Common.{◌≡◌, ℕ, ◌+◌, ◌*◌, ◌/◌, ◌%◌, ◌<◌, ◌^◌, List, [], ◌∷◌, ◌++◌, length, eqb, Option, Some, None, refl, sym, ◌∙◌, lit<, arith}
 use Rattle.std.specs.Fmt.{decimal}
 use Rattle.std.specs.Option.{MatchOption}
 use Rattle.std.proofs.lemmas.List.Splits.{slice_split_none}
 use Rattle.std.proofs.lemmas.Fmt.{decimal_digit}
 use Rattle.gft_base.specs.Number.{AreDigits, IsNumber}
-use Rattle.gft_base.specs.Parts.{parts_at, parts_left}
+use Rattle.gft_base.specs.Parts.{parts_at}
 use Rattle.gft_base.proofs.NumberLemmas.{IsNumber-decimal, IsNumber-one, digits_apart, number_part}
 use Rattle.gft_base.proofs.PartsLemmas.{part_alone, parts_join, parts_some}
 use Rattle.gft_mark.specs.Fields.{AreSeconds, AreTenths, BeginsApart, IsFraction, IsShortNumber, IsTimestamp}

@@ -10,8 +10,11 @@ mod laws;
 mod marker;
 mod perf;
 mod range;
+#[cfg(test)]
+mod tests;
 mod value;
 
 pub use laws::markers_have_one_value;
 pub use marker::{Marker, MarkerError, read_marker};
 pub use perf::{Perf, perf_marker};
+pub use range::range_marker;

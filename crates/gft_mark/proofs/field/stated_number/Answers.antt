@@ -1,4 +1,3 @@
-use Rattle.std.proofs.Common.{rules}
 use Rattle.gft_base.specs.Number.{IsNumber}
 use Rattle.gft_mark.proofs.FieldLemmas.{States-read}
 use Rattle.gft_mark.proofs.field.stated_number.Goals as goal

@@ -1,4 +1,3 @@
-use Rattle.std.proofs.Common.{rules}
 use Rattle.gft_mark.specs.Fields.{IsShortNumber}
 use Rattle.gft_mark.proofs.FieldLemmas.{States-read}
 use Rattle.gft_mark.proofs.field.stated_short.Goals as goal

@@ -1,8 +1,5 @@
 use Rattle.std.proofs.Common.{◌≡◌, [], get_or, arith, rules}
 use Rattle.std.specs.Prelude.{codes}
-use Rattle.std.proofs.lemmas.Grind.{common_steps}
-use Rattle.gft_base.specs.Number.{IsNumber}
-use Rattle.gft_mark.specs.Fields.{IsShortNumber, IsTimestamp, States}
 use Rattle.gft_mark.proofs.PerfLemmas.{perf-bytes, perf-read, perf-stripe, perf-stripes, perf-tenths}
 use Rattle.gft_mark.proofs.perf.read_perf.Goals as goal
 
@@ -27,8 +24,8 @@ returns c =
     let lines = c.args.reply.now.lines in
     let name : get_or lines 0 [] ≡ codes "Perf Marker" = search rules in
     perf-read c.args.reply.now _ c.in_ok-strip_front.field-0.now (omega arith) (omega arith) name
-      (rw (← c.line_at-2.ensures) c.in_ok-strip_front.ensures)
-      (rw (← c.line_at-3.ensures) c.in_ok-stated_tenths.ensures)
-      (rw (← c.line_at-4.ensures) c.in_ok-stated_short.ensures)
-      (rw (← c.line_at-5.ensures) c.in_ok-stated_number.ensures)
-      (rw (← c.line_at-6.ensures) c.in_ok-stated_short-2.ensures)
+    (rw (← c.line_at-2.ensures) c.in_ok-strip_front.ensures)
+    (rw (← c.line_at-3.ensures) c.in_ok-stated_tenths.ensures)
+    (rw (← c.line_at-4.ensures) c.in_ok-stated_short.ensures)
+    (rw (← c.line_at-5.ensures) c.in_ok-stated_number.ensures)
+    (rw (← c.line_at-6.ensures) c.in_ok-stated_short-2.ensures)

@@ -1,5 +1,3 @@
-use Rattle.std.proofs.Common.{ℕ, List, ◌++◌, ◌≡◌}
-use Rattle.std.specs.Prelude.{codes}
 use Rattle.gft_mark.proofs.RangeLemmas.{range-empty, range-list, range-unnamed}
 use Rattle.gft_mark.proofs.range.read_ranges.Goals as goal
 

@@ -1,4 +1,3 @@
-use Rattle.std.proofs.Common.{◌*◌, ◌+◌, arith}
 use Rattle.gft_mark.proofs.ValueLemmas.{timestamp-parts}
 use Rattle.gft_mark.proofs.value.read_tenths.Goals as goal
 
