@@ -1,3 +1,4 @@
+pub mod DigitLemmas
 pub mod FirstGapLemmas
 pub mod GapLemmas
 pub mod JoinLemmas
@@ -7,3 +8,4 @@ pub mod OffsetLemmas
 pub mod SearchLemmas
 pub mod TouchLemmas
 pub mod UnionLemmas
+pub mod WholeLemmas

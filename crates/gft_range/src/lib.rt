@@ -1,8 +1,9 @@
 //! Finite sets of byte offsets, kept as their normal lists of ranges: each range has an offset,
 //! and ends before the next begins. A set of offsets has one such list.
 //!
-//! Begin with [`RangeSet::insert`] and [`RangeSet::missing`]. Only [`RangeSet::reserve`] and
-//! [`RangeSet::copy`] allocate; no range is taken out of a set but by [`RangeSet::clear`].
+//! Begin with [`RangeSet::insert`] and [`RangeSet::missing`]. A set as text, `0-5,7-9`, is read by
+//! [`RangeSet::parse_list`] and written by [`RangeSet::write_list`]. What answers want of memory
+//! allocates, and nothing else; no range is taken out of a set but by [`RangeSet::clear`].
 #![tactic(auto)]
 
 mod gaps;
@@ -12,6 +13,7 @@ mod range;
 mod set;
 #[cfg(test)]
 mod tests;
+mod whole;
 
 pub use gaps::Missing;
 pub use laws::{lists_have_one_value, one_normal_list};

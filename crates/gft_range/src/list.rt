@@ -1,5 +1,6 @@
 ghost use Rattle.std.specs.Prelude.{◌≡◌, ◌<◌, ◌≤◌, ◌^◌, ℕ, ◌++◌, List, length, IfOk, IfErr, OnOk, MatchOption, ◌+◌, ◌↔◌, ◌⊎◌};
 ghost use Rattle.std.specs.String.{string_bytes};
+ghost use Rattle.gft_base.specs.Number.{IsNumber};
 ghost use Rattle.gft_range.specs.Range.{InRange, HasOffset};
 ghost use Rattle.gft_range.specs.Normal.{IsNormal};
 ghost use Rattle.gft_range.specs.ListText.{IsItem, IsList, HasNoList, FirstBadAt, Refuses, FitRanges, items_of, range_text, list_text};
@@ -14,6 +15,9 @@ use thiserror::Error;
 
 /// The most items of a list that is read, and the most ranges of one that is written.
 pub const MOST_ITEMS: usize = 512;
+
+/// Any number of so many digits has 64 bits.
+const SURE_DIGITS: usize = 19;
 
 /// Why a text is no list of ranges.
 #[derive(Clone, Copy, Debug, PartialEq, Eq, Error)]
@@ -70,7 +74,7 @@ impl RangeSet {
         ensures read { IfOk result (λ text. IsList text.items self.now.ranges) }
         ensures normal { IsNormal self.now.ranges }
     {
-        write_ranges(self.allocator(), self.as_slice())
+        write_ranges(*self.ranges.allocator(), &self.ranges)
     }
 }
 
@@ -123,20 +127,37 @@ fn read_item(text: &[u8]) -> Option<Range>
     ensures { MatchOption result ((r : Range) → ¬ IsItem text.now r) (IsItem text.now) }
 {
     let (first, after) = split_first(text, b'-');
-    let first = read_decimal(first)?;
+    let first = read_end(first)?;
     match after {
         None => Some(Range {
             start: 0,
             end: first,
         }),
         Some(rest) => {
-            let end = read_decimal(rest)?;
+            let end = read_end(rest)?;
             if first > end {
                 return None;
             }
             Some(Range { start: first, end })
         }
     }
+}
+
+/// As `read_decimal`, and faster: 19 digits are below 2^64, so that none needs a test.
+fn read_end(text: &[u8]) -> Option<u64>
+    ensures { MatchOption result ((n : ℕ) → ¬ IsNumber text.now n) (IsNumber text.now) }
+{
+    if text.is_empty() || text.len() > SURE_DIGITS {
+        return read_decimal(text);
+    }
+    let mut number = 0;
+    for byte in text {
+        if *byte < b'0' || *byte > b'9' {
+            return None;
+        }
+        number = number * 10 + u64::from(*byte - b'0');
+    }
+    Some(number)
 }
 
 /// The text of these ranges, or `0-0` where there is none.

@@ -73,3 +73,88 @@ fn a_copy_stays_when_the_set_is_cleared(rt: HostRuntime) -> Result<(), Fail> {
     is_list(&rt, &copy, &[range(0, 5), range(7, 9)]);
     Ok(())
 }
+
+/// Asserts that the text names the set of this normal list.
+fn reads_as(rt: &impl Abort, alloc: Global, text: &[u8], list: &[Range]) -> Result<(), Fail> {
+    match RangeSet::parse_list(alloc, text) {
+        Ok(set) => is_list(rt, &set, list),
+        Err(error) => assert!(rt; false, "{text:?}: {error}"),
+    }
+    Ok(())
+}
+
+#[test]
+fn a_list_names_the_offsets_of_its_items(rt: HostRuntime) -> Result<(), Fail> {
+    let alloc = rt.alloc();
+    reads_as(&rt, alloc, b"0-5,7-9,5-7", &[range(0, 9)])?;
+    reads_as(&rt, alloc, b"0-0", &[])?;
+    reads_as(&rt, alloc, b"5", &[range(0, 5)])?;
+    reads_as(
+        &rt,
+        alloc,
+        b"20-30,007-0009,3-3",
+        &[range(7, 9), range(20, 30)],
+    )?;
+    reads_as(
+        &rt,
+        alloc,
+        b"18446744073709551614-18446744073709551615",
+        &[range(u64::MAX - 1, u64::MAX)],
+    )
+}
+
+#[test]
+fn a_list_is_refused_at_its_first_ill_formed_item(rt: HostRuntime) {
+    let rows: [(&'static [u8], usize); 8] = [
+        (b"0-5,x", 4),
+        (b"", 0),
+        (b"5-3", 0),
+        (b"0-5,", 4),
+        (b"1-2,3-4-5,x", 4),
+        (b"1,-2", 2),
+        (b"0-18446744073709551616", 0),
+        (b"00,000000000000000000000", 3),
+    ];
+    for (text, at) in rows {
+        let refused = RangeSet::parse_list(rt.alloc(), text);
+        assert_eq!(rt; refused.err(), Some(ListError::BadList { at }), "{text:?}");
+    }
+}
+
+#[test]
+fn a_list_has_at_most_512_items(rt: HostRuntime) -> Result<(), Fail> {
+    let mut text = Vec::new(rt.alloc());
+    for _ in 0..511 {
+        text.extend_from_slice(b"1-2,")?;
+    }
+    text.push(b'9')?;
+    reads_as(&rt, rt.alloc(), &text, &[range(0, 9)])?;
+    text.extend_from_slice(b",x")?;
+    let refused = RangeSet::parse_list(rt.alloc(), &text);
+    assert_eq!(rt; refused.err(), Some(ListError::TooMany { items: 513 }));
+    Ok(())
+}
+
+#[test]
+fn a_set_is_written_as_its_normal_list(rt: HostRuntime) -> Result<(), Fail> {
+    let set = set_of(&rt, rt.alloc(), &[range(7, 9), range(0, 5)])?;
+    assert!(rt; set.count() <= MOST_ITEMS);
+    assert_eq!(rt; set.write_list()?.as_slice(), b"0-5,7-9".as_slice());
+    assert_eq!(rt;
+        RangeSet::new(rt.alloc()).write_list()?.as_slice(),
+        b"0-0".as_slice()
+    );
+    Ok(())
+}
+
+#[test]
+fn whole_sets_are_joined_and_cut(rt: HostRuntime) -> Result<(), Fail> {
+    let mut set = set_of(&rt, rt.alloc(), &[range(0, 5), range(7, 9)])?;
+    is_list(&rt, &set.complement(12)?, &[range(5, 7), range(9, 12)]);
+    is_list(&rt, &set.complement(8)?, &[range(5, 7)]);
+    is_list(&rt, &set.first(1)?, &[range(0, 5)]);
+    is_list(&rt, &set.first(3)?, &[range(0, 5), range(7, 9)]);
+    set.union(&set_of(&rt, rt.alloc(), &[range(5, 7), range(20, 30)])?)?;
+    is_list(&rt, &set, &[range(0, 9), range(20, 30)]);
+    Ok(())
+}
