@@ -1,0 +1,4 @@
+pub mod FieldLemmas
+pub mod ValueLemmas
+pub mod PerfLemmas
+pub mod RangeLemmas

@@ -1,0 +1,20 @@
+//! Markers of a transfer (GFD.20): restart markers, which name the ranges of the file that are
+//! stored, and performance markers, which say how far each stripe has come.
+//!
+//! Begin with [`read_marker`], and with `specs/Markers.antt`, which says which replies are markers.
+//! A marker is a reply of `gft_reply`, which reads and writes its lines. Nothing here asks a clock.
+#![tactic(auto)]
+
+mod field;
+mod laws;
+mod marker;
+mod perf;
+mod range;
+#[cfg(test)]
+mod tests;
+mod value;
+
+pub use laws::markers_have_one_value;
+pub use marker::{Marker, MarkerError, read_marker};
+pub use perf::{Perf, perf_marker};
+pub use range::range_marker;
