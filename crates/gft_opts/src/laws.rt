@@ -14,8 +14,10 @@ use gft_text::HostPort;
 
 /// Options that fit are read again from their text, only such are read, and no text is two.
 pub fn retr_has_one_value()
-    ensures written { (options : RetrOptions) → FitsRetr options → IsRetr (retr_text options) options }
-    ensures fits { (text : List ℕ) (options : RetrOptions) → IsRetr text options → FitsRetr options }
+    ensures written { (options : RetrOptions) →
+        FitsRetr options → IsRetr (retr_text options) options }
+    ensures fits { (text : List ℕ) (options : RetrOptions) →
+        IsRetr text options → FitsRetr options }
     ensures one { (text : List ℕ) (a b : RetrOptions) → IsRetr text a → IsRetr text b → a ≡ b }
 {}
 
@@ -29,9 +31,12 @@ pub fn host_port_fits(at: &HostPort)
 
 /// Targets that fit are read again from their text, only such are read, and no text is two.
 pub fn targets_have_one_value()
-    ensures written { (targets : List HostPort) → FitsTargets targets → IsTargets (targets_text targets) targets }
-    ensures fits { (text : List ℕ) (targets : List HostPort) → IsTargets text targets → FitsTargets targets }
-    ensures one { (text : List ℕ) (a b : List HostPort) → IsTargets text a → IsTargets text b → a ≡ b }
+    ensures written { (targets : List HostPort) →
+        FitsTargets targets → IsTargets (targets_text targets) targets }
+    ensures fits { (text : List ℕ) (targets : List HostPort) →
+        IsTargets text targets → FitsTargets targets }
+    ensures one { (text : List ℕ) (a b : List HostPort) →
+        IsTargets text a → IsTargets text b → a ≡ b }
 {}
 
 /// A part that fits is read again from its text, only such are read, and no text is two.

@@ -30,8 +30,8 @@ pub struct Esto {
 }
 
 /// Reads `P offset size name` (GFD.20, ERET): four words with one space between them, `P` in
-/// either letter case. The offset is at most 2^48 - 1. The name is any bytes without a space, and is
-/// copied by the one allocation. `BadParameter` where the text is none.
+/// either letter case. The offset is at most 2^48 - 1. The name is any bytes without a space; its
+/// copy is the one allocation. `BadParameter` where the text is none.
 pub fn read_eret(alloc: Global, text: &[u8]) -> Result<Eret, OptsError>
     ensures part { IfOk result (IsEret text.now) }
     ensures none { IfErr result (Refuses ((eret : Eret) → ¬ IsEret text.now eret)) }
@@ -49,7 +49,8 @@ pub fn read_eret(alloc: Global, text: &[u8]) -> Result<Eret, OptsError>
 /// The offset, the size and the name.
 fn eret_words(text: &[u8]) -> Option<(u64, u64, &[u8])>
     ensures { MatchOption result ((eret : Eret) → ¬ IsEret text.now eret)
-        (λ words. IsEret text.now (record { offset = words.0; size = words.1; path = words.2.now })) }
+        (λ words. IsEret text.now
+        (record { offset = words.0; size = words.1; path = words.2.now })) }
 {
     let (mode, behind) = split_first(text, b' ');
     let (offset, behind) = split_first(behind?, b' ');
@@ -62,8 +63,8 @@ fn eret_words(text: &[u8]) -> Option<(u64, u64, &[u8])>
 }
 
 /// Reads `A offset name` (GFD.20, ESTO): three words with one space between them, `A` in either
-/// letter case. The offset is at most 2^48 - 1. The name is any bytes without a space, and is copied
-/// by the one allocation. `BadParameter` where the text is none.
+/// letter case. The offset is at most 2^48 - 1. The name is any bytes without a space; its copy is
+/// the one allocation. `BadParameter` where the text is none.
 pub fn read_esto(alloc: Global, text: &[u8]) -> Result<Esto, OptsError>
     ensures part { IfOk result (IsEsto text.now) }
     ensures none { IfErr result (Refuses ((esto : Esto) → ¬ IsEsto text.now esto)) }

@@ -85,7 +85,8 @@ pub fn write_retr(alloc: Global, options: &RetrOptions) -> Result<Vec<u8>, OutOf
 }
 
 fn write_layout(text: &mut String, layout: Option<Layout>) -> Result<(), OutOfMemory>
-    ensures { OnOk result (string_bytes text.new ≡ string_bytes text.old ++ settings_text (layout_settings layout)) }
+    ensures { OnOk result
+        (string_bytes text.new ≡ string_bytes text.old ++ settings_text (layout_settings layout)) }
 {
     match layout {
         None => Ok(()),
@@ -94,7 +95,8 @@ fn write_layout(text: &mut String, layout: Option<Layout>) -> Result<(), OutOfMe
 }
 
 fn write_named(text: &mut String, layout: Layout) -> Result<(), OutOfMemory>
-    ensures { OnOk result (string_bytes text.new ≡ string_bytes text.old ++ settings_text (layout_settings (Some layout))) }
+    ensures { OnOk result (string_bytes text.new
+        ≡ string_bytes text.old ++ settings_text (layout_settings (Some layout))) }
 {
     match layout {
         Layout::Partitioned => write!(text, "StripeLayout=Partitioned;")?,
@@ -104,7 +106,8 @@ fn write_named(text: &mut String, layout: Layout) -> Result<(), OutOfMemory>
 }
 
 fn write_parallel(text: &mut String, parallel: Option<u16>) -> Result<(), OutOfMemory>
-    ensures { OnOk result (string_bytes text.new ≡ string_bytes text.old ++ settings_text (parallel_settings parallel)) }
+    ensures { OnOk result (string_bytes text.new
+        ≡ string_bytes text.old ++ settings_text (parallel_settings parallel)) }
 {
     match parallel {
         None => Ok(()),

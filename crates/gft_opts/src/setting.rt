@@ -68,7 +68,8 @@ const LAYOUTS: Table = Table {
 
 /// Reads one item `key=value`.
 pub(crate) fn read_setting(item: &[u8]) -> Option<Setting>
-    ensures { MatchOption result ((setting : Setting) → ¬ IsSetting item.now setting) (IsSetting item.now) }
+    ensures { MatchOption result
+        ((setting : Setting) → ¬ IsSetting item.now setting) (IsSetting item.now) }
 {
     let (key, value) = split_word(item, b'=');
     match read_key(key)? {
@@ -90,7 +91,8 @@ fn read_key(text: &[u8]) -> Option<Key>
 }
 
 fn read_layout_name(text: &[u8]) -> Option<LayoutName>
-    ensures { MatchOption result ((name : LayoutName) → ¬ IsLayoutName text.now name) (IsLayoutName text.now) }
+    ensures { MatchOption result
+        ((name : LayoutName) → ¬ IsLayoutName text.now name) (IsLayoutName text.now) }
 {
     match LAYOUTS.find(text)? {
         1 => Some(LayoutName::Partitioned),
@@ -100,7 +102,8 @@ fn read_layout_name(text: &[u8]) -> Option<LayoutName>
 }
 
 fn read_block_size(text: &[u8]) -> Option<u64>
-    ensures { MatchOption result ((block : ℕ) → ¬ IsBlockSize text.now block) (IsBlockSize text.now) }
+    ensures { MatchOption result
+        ((block : ℕ) → ¬ IsBlockSize text.now block) (IsBlockSize text.now) }
 {
     let block = read_decimal(text)?;
     if block < 1 || block > LIMIT {
@@ -111,7 +114,8 @@ fn read_block_size(text: &[u8]) -> Option<u64>
 
 /// Reads `start,min,max`, and answers the start.
 fn read_parallelism(text: &[u8]) -> Option<u16>
-    ensures { MatchOption result ((start : ℕ) → ¬ IsParallelism text.now start) (IsParallelism text.now) }
+    ensures { MatchOption result
+        ((start : ℕ) → ¬ IsParallelism text.now start) (IsParallelism text.now) }
 {
     let (start, behind) = split_first(text, b',');
     let (least, most) = split_first(behind?, b',');
@@ -127,7 +131,8 @@ fn read_parallelism(text: &[u8]) -> Option<u16>
 }
 
 fn are_ordered(least: u64, start: u64, most: u64) -> bool
-    ensures { IsTrue result ↔ ((1 ≤ least) × (least ≤ start) × (start ≤ most) × (most ≤ MOST_PARALLEL)) }
+    ensures { IsTrue result
+        ↔ ((1 ≤ least) × (least ≤ start) × (start ≤ most) × (most ≤ MOST_PARALLEL)) }
 {
     1 <= least && least <= start && start <= most && most <= u64::from(MOST_PARALLEL)
 }

@@ -42,7 +42,8 @@ impl Settings {
     /// `Blocked` without a block size.
     pub(crate) fn layout(self) -> Option<Option<Layout>>
         ensures { MatchOption result
-            ((layout : Option Layout) → ¬ MakesLayout (option_to_list self.layout) (option_to_list self.block) layout)
+            ((layout : Option Layout) →
+            ¬ MakesLayout (option_to_list self.layout) (option_to_list self.block) layout)
             (MakesLayout (option_to_list self.layout) (option_to_list self.block)) }
     {
         match (self.layout, self.block) {
@@ -69,7 +70,8 @@ fn once<T: Copy>(before: Option<T>, value: T) -> Option<T>
 /// Reads the items of a text, each ended by `;`, which may be missing at the end.
 pub(crate) fn read_settings(text: &[u8]) -> Option<Settings>
     ensures { MatchOption result ((options : RetrOptions) → ¬ IsRetr text.now options)
-        (λ said. Says text.now (option_to_list said.layout) (option_to_list said.block) (option_to_list said.parallel)) }
+        (λ said. Says text.now (option_to_list said.layout)
+        (option_to_list said.block) (option_to_list said.parallel)) }
 {
     let mut said = Settings {
         layout: None,

@@ -17,7 +17,8 @@ pub const MOST_TARGETS: usize = 16;
 /// space between them. It allocates once, for all of them. `BadParameter` where the text is none.
 pub fn read_targets(alloc: Global, text: &[u8]) -> Result<HostPorts, OptsError>
     ensures targets { IfOk result (IsTargets text.now) }
-    ensures none { IfErr result (Refuses ((targets : List HostPort) → ¬ IsTargets text.now targets)) }
+    ensures none { IfErr result
+        (Refuses ((targets : List HostPort) → ¬ IsTargets text.now targets)) }
 {
     let count = count_parts(text);
     if count > MOST_TARGETS {
