@@ -1,6 +1,6 @@
 -- Lists, and texts cut at a separator.
-use Rattle.std.proofs.Common.{◌≡◌, ℕ, ◌<◌, Bool, true, false, not, eqb, List, [], ◌∷◌, ◌++◌, length, map, refl, sym, ap, ◌∙◌, zero, suc, arith}
-use Rattle.std.specs.List.{AllZip, AllByRecursion, All, join_with_byte, list_all}
+use Rattle.std.proofs.Common.{◌≡◌, ℕ, true, false, not, eqb, List, [], ◌∷◌, ◌++◌, map, refl, ap}
+use Rattle.std.specs.List.{AllZip, AllByRecursion, join_with_byte, list_all}
 use Rattle.std.proofs.lemmas.Bool.{not-true}
 use Rattle.std.proofs.lemmas.List.Elements.{All-append, All-cons}
 use Rattle.std.proofs.lemmas.List.Splits.{slice_split_none}

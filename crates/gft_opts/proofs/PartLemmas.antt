@@ -1,15 +1,13 @@
 -- Parts of a file in text.
-use Rattle.std.proofs.Common.{◌≡◌, ℕ, ◌<◌, ◌≤◌, ◌^◌, not, Bool, true, false, eqb, List, [], ◌∷◌, ◌++◌, length, codes, Option, Some, None, refl, sym, ap, ◌∙◌, arith, lit<}
+use Rattle.std.proofs.Common.{◌≡◌, ℕ, ◌<◌, ◌^◌, not, Bool, true, false, eqb, List, [], ◌∷◌, ◌++◌, codes, Option, Some, None, refl, sym, ap, ◌∙◌, arith, lit<}
 use Rattle.std.specs.Fmt.{decimal}
-use Rattle.std.specs.Prelude.{IsTrue}
 use Rattle.std.specs.Option.{is_some}
-use Rattle.std.specs.List.{position, All}
+use Rattle.std.specs.List.{position}
 use Rattle.std.proofs.lemmas.List.Splits.{slice_split_none}
 use Rattle.gft_base.specs.Parts.{parts_at, Lacks}
 use Rattle.gft_base.specs.Number.{IsNumber}
-use Rattle.gft_base.specs.declared.limit.TheConstants.{LIMIT}
-use Rattle.gft_base.proofs.PartsLemmas.{part_alone, parts_alone, parts_join, position-None, position-none_from}
-use Rattle.gft_base.proofs.NumberLemmas.{IsNumber-one, IsNumber-decimal, digits_apart}
+use Rattle.gft_base.proofs.PartsLemmas.{part_alone, parts_join, position-None, position-none_from}
+use Rattle.gft_base.proofs.NumberLemmas.{IsNumber-decimal, digits_apart}
 use Rattle.gft_opts.specs.Word.{IsWord}
 use Rattle.gft_opts.specs.Part.{FitsEret, FitsEsto, IsEret, IsEsto, IsOffset, IsPath, eret_text, esto_text}
 use Rattle.gft_opts.specs.declared.part.Eret.{Eret}

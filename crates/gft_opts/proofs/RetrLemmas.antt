@@ -1,14 +1,13 @@
 -- Options of RETR in text.
-use Rattle.std.proofs.Common.{◌≡◌, ℕ, ◌+◌, ◌<◌, ◌≤◌, ◌⊎◌, Bool, true, false, not, eqb, List, [], ◌∷◌, ◌++◌, length, length-append, length-drop, take, drop, Option, Some, None, map, codes, inl, inr, refl, sym, ap, ◌∙◌, append_assoc, arith, lit<}
+use Rattle.std.proofs.Common.{◌≡◌, ℕ, ◌+◌, ◌<◌, ◌≤◌, eqb, List, [], ◌∷◌, ◌++◌, length, length-append, length-drop, take, drop, Option, Some, None, codes, inl, inr, refl, sym, ap, ◌∙◌, append_assoc, arith}
 use Rattle.std.specs.Fmt.{decimal}
 use Rattle.std.proofs.Math.ListN.{drop_of_length-le}
 use Rattle.std.proofs.Math.Seq.{take-length}
 use Rattle.std.specs.List.{AllZip, AllByRecursion, position, flat_map, before_first, after_first}
 use Rattle.std.specs.Option.{option_to_list}
 use Rattle.std.proofs.lemmas.Grind.{flat_map-append}
-use Rattle.std.proofs.lemmas.List.{append-nil, take_all}
-use Rattle.gft_base.specs.Parts.{parts_at, Lacks}
-use Rattle.gft_base.specs.declared.limit.TheConstants.{LIMIT}
+use Rattle.std.proofs.lemmas.List.{append-nil}
+use Rattle.gft_base.specs.Parts.{parts_at}
 use Rattle.gft_base.proofs.PartsLemmas.{parts_found, parts_alone, parts_some, parts_join, place_found, place_none}
 use Rattle.gft_base.proofs.ZipLemmas.{AllZip-one, AllZip-middle, AllZip-push}
 use Rattle.gft_layout.specs.declared.Layout.{Layout}
@@ -18,9 +17,7 @@ use Rattle.gft_opts.specs.Retr.{FitsLayout, FitsParallel, FitsRetr, IsRetr, Make
 use Rattle.gft_opts.specs.Settings.{Adds, IsTwice}
 use Rattle.gft_opts.specs.declared.retr.RetrOptions.{RetrOptions}
 use Rattle.gft_opts.specs.declared.settings.Settings.{Settings}
-use Rattle.gft_opts.specs.declared.setting.TheConstants.{MOST_PARALLEL}
 use Rattle.gft_opts.specs.declared.setting.LayoutName.{LayoutName}
-use Rattle.gft_opts.specs.declared.setting.LayoutName.TheVariants as names
 use Rattle.gft_opts.specs.declared.setting.Setting.{Setting}
 use Rattle.gft_opts.specs.declared.setting.Setting.TheVariants.{StripeLayout, BlockSize, Parallelism}
 use Rattle.gft_opts.proofs.ListLemmas.{AllZip-split}

@@ -1,20 +1,20 @@
 -- One option of RETR.
-use Rattle.std.proofs.Common.{◌≡◌, ℕ, ◌<◌, ◌≤◌, ◌^◌, Bool, true, false, not, eqb, List, [], ◌∷◌, ◌++◌, length, map, codes, zero, suc, refl, sym, ap, ◌∙◌, arith, lit<}
+use Rattle.std.proofs.Common.{◌≡◌, ℕ, ◌<◌, ◌≤◌, ◌^◌, false, eqb, List, [], ◌∷◌, ◌++◌, codes, refl, sym, ap, ◌∙◌, arith, lit<}
 use Rattle.std.specs.Fmt.{decimal}
-use Rattle.std.specs.List.{AllZip, AllByRecursion, All, join_with_byte}
+use Rattle.std.specs.List.{AllZip}
 use Rattle.std.proofs.lemmas.Bool.{ne_eqb}
-use Rattle.std.proofs.lemmas.List.Elements.{All-append, All-cons}
+use Rattle.std.proofs.lemmas.List.Elements.{All-cons}
 use Rattle.gft_base.specs.Parts.{parts_at, Lacks}
 use Rattle.gft_base.specs.Number.{IsNumber, AreDigits}
 use Rattle.gft_base.specs.declared.limit.TheConstants.{LIMIT}
-use Rattle.gft_base.proofs.PartsLemmas.{part_alone, parts_some}
+use Rattle.gft_base.proofs.PartsLemmas.{part_alone}
 use Rattle.gft_base.proofs.NumberLemmas.{IsNumber-one, IsNumber-decimal, number_part, parts-decimals}
 use Rattle.gft_base.proofs.ZipLemmas.{AllZip-one}
-use Rattle.gft_text.specs.Table.{folded, same_bytes, IsAbsent, HasText}
+use Rattle.gft_text.specs.Table.{folded, same_bytes, IsAbsent}
 use Rattle.gft_text.specs.declared.table.Entry.{Entry}
 use Rattle.gft_text.proofs.TableLemmas.{texts_apart}
 use Rattle.gft_opts.specs.Word.{IsWord}
-use Rattle.gft_opts.specs.Setting.{IsBlockSize, IsKey, IsLayoutName, IsParallelism, IsSetting, IsValue, key_in, value_in, key_of, key_text, name_text, setting_text, value_text}
+use Rattle.gft_opts.specs.Setting.{IsKey, IsLayoutName, IsParallelism, IsSetting, key_in, value_in, key_of, key_text, name_text, setting_text, value_text}
 use Rattle.gft_opts.specs.declared.setting.TheConstants.{MOST_PARALLEL}
 use Rattle.gft_opts.specs.declared.setting.Key.{Key}
 use Rattle.gft_opts.specs.declared.setting.Key.TheVariants as keys

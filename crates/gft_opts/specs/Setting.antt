@@ -1,5 +1,5 @@
 -- One option of RETR, `key=value` (GFD.20, OPTS RETR).
-use Rattle.std.specs.Prelude.{◌≡◌, ℕ, ◌≤◌, ◌==◌, ◌++◌, List, [], ◌∷◌, codes, decimal}
+use Rattle.std.specs.Prelude.{ℕ, ◌≤◌, ◌==◌, ◌++◌, List, [], ◌∷◌, codes, decimal}
 use Rattle.std.specs.List.{AllZip, before_first, after_first}
 use Rattle.gft_base.specs.Number.{IsNumber}
 use Rattle.gft_base.specs.Parts.{parts_at}

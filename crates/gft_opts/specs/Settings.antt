@@ -1,5 +1,5 @@
 -- What a reader of options has found so far.
-use Rattle.std.specs.Prelude.{◌≡◌, ℕ, ◌<◌, ◌⊎◌, ◌++◌, List, length}
+use Rattle.std.specs.Prelude.{◌≡◌, ◌<◌, ◌⊎◌, ◌++◌, length}
 use Rattle.std.specs.Option.{option_to_list}
 use Rattle.gft_opts.specs.Retr.{layout_in, block_in, start_in}
 use Rattle.gft_opts.specs.declared.setting.Setting.{Setting}

@@ -1,4 +1,4 @@
-use Rattle.std.proofs.Common.{refl, true, false, sym}
+use Rattle.std.proofs.Common.{refl, sym}
 use Rattle.gft_opts.proofs.PartLemmas.{esto_words, esto_of}
 use Rattle.gft_opts.proofs.part.esto_words.Goals as goal
 use Rattle.gft_opts.proofs.part.esto_words.Goals.{then-not-eq_ignore_ascii_case-via-then-not-eq_ignore_ascii_case, then-not-eq_ignore_ascii_case-via-else-not-eq_ignore_ascii_case+then-not-is_path}

@@ -1,4 +1,4 @@
-use Rattle.std.proofs.Common.{arith, true, ◌≡◌}
+use Rattle.std.proofs.Common.{arith}
 use Rattle.std.proofs.lemmas.Grind.{common_steps}
 use Rattle.gft_opts.proofs.PartLemmas.{no_space, space_none}
 use Rattle.gft_opts.proofs.part.is_path.Goals as goal

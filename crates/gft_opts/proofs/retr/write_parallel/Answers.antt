@@ -1,4 +1,3 @@
-use Rattle.std.proofs.Common.{◌≡◌, Some}
 use Rattle.gft_opts.proofs.RetrLemmas.{parallel_text}
 use Rattle.gft_opts.proofs.retr.write_parallel.Goals as goal
 

@@ -1,6 +1,6 @@
-use Rattle.std.proofs.Common.{◌<◌, ◌≡◌, length, refl, sym, arith}
+use Rattle.std.proofs.Common.{◌<◌, length, refl, arith}
 use Rattle.std.proofs.lemmas.Grind.{common_steps}
-use Rattle.gft_opts.proofs.RetrLemmas.{nothing_read, read_more, all_read, bad_item, key_twice}
+use Rattle.gft_opts.proofs.RetrLemmas.{nothing_read, read_more, bad_item, key_twice}
 use Rattle.gft_opts.proofs.settings.read_settings.Goals as goal
 
 pub loop-rest-init : goal.loop-rest-init

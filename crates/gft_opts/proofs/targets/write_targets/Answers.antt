@@ -1,6 +1,5 @@
-use Rattle.std.proofs.Common.{◌≡◌, ◌∷◌, ◌++◌, ◌∙◌, length, sym, arith}
+use Rattle.std.proofs.Common.{◌≡◌, ◌∙◌, length, sym, arith}
 use Rattle.std.proofs.Math.Seq.{take-length}
-use Rattle.gft_opts.specs.Targets.{IsTargets, targets_text}
 use Rattle.gft_opts.proofs.TargetsLemmas.{whole_text, written}
 use Rattle.gft_opts.proofs.targets.write_targets.Goals as goal
 
