@@ -1,7 +1,7 @@
 -- What a feed makes of the lines that were taken.
-use Rattle.std.proofs.Common.{◌≡◌, ℕ, ◌+◌, ◌-◌, ◌≤◌, Bool, true, false, List, [], ◌∷◌, ◌++◌, length, length-append, get_or, get_or-take, take, drop, Some, None, append_assoc, append-nil, refl, sym, ap, ◌∙◌, inl, inr, arith}
+use Rattle.std.proofs.Common.{◌≡◌, ℕ, ◌+◌, ◌-◌, ◌≤◌, Bool, true, false, List, [], ◌∷◌, ◌++◌, length, length-append, get_or, get_or-take, take, Some, None, append_assoc, append-nil, refl, sym, ap, ◌∙◌, inl, inr, arith}
 use Rattle.std.proofs.lemmas.Bool.{both_ways, cases_lt, eq-eqb}
-use Rattle.std.proofs.Math.Seq.{drop-append_seam, get_or-append_seam, take-append-add, take-append_seam, take-length}
+use Rattle.std.proofs.Math.Seq.{get_or-append_seam, take-append-add, take-append_seam, take-length}
 use Rattle.gft_base.specs.Parts.{Lacks}
 use Rattle.gft_text.specs.LineStream.{Told, told}
 use Rattle.gft_text.proofs.LineLemmas.{told-none}
@@ -9,7 +9,7 @@ use Rattle.gft_reply.specs.declared.reply.Reply.{Reply}
 use Rattle.gft_reply.specs.ReplyStream.{heard, nothing}
 use Rattle.gft_reply.specs.Standing.{Standing}
 use Rattle.gft_reply.specs.Replies.{Carries}
-use Rattle.gft_reply.specs.Taking.{StopsEnded, StopsOpen}
+use Rattle.gft_reply.specs.Taking.{StopsAt, StopsEnded}
 
 -- where a reader stands
 abbrev pub standing : Reply → List ℕ → Bool → Standing
@@ -21,22 +21,17 @@ is_nothing reply code lines =
     coded ∙ ap (λ (x : List (List ℕ)). record { code = 0; lines = x }) lines
 
 -- the bytes behind the whole lines stay
-pub open-carries : (begun new : Reply) (held piece bytes kept : List ℕ) (left : ℕ) (failed : Bool) → failed ≡ false → bytes ≡ held ++ piece → StopsOpen begun bytes left new → kept ≡ drop (length held + length piece - left) bytes → Carries (standing begun held failed) piece (record { used = length piece; reply = None }) (standing new kept failed)
-open-carries begun new held piece bytes kept left true going is stop kept_is = absurd (cc going)
-open-carries begun new held piece bytes kept left false going is stop kept_is =
-    let all = ap length is ∙ length-append held piece in
-    let parts = ap length stop.bytes_are ∙ length-append stop.done stop.rest in
-    let place : length held + length piece - left ≡ length stop.done = omega (arith, stop.left_is) in
-    let rest : kept ≡ stop.rest = kept_is ∙ ap (λ (n : ℕ). drop n bytes) place ∙ ap (λ (x : List ℕ). drop (length stop.done) x) stop.bytes_are ∙ drop-append_seam stop.done stop.rest in
-    record {
-      used = omega arith;
-      all = λ later.
-          let spelt : held ++ (take (length piece) piece ++ later) ≡ stop.done ++ (kept ++ later) =
-          ap (λ (x : List ℕ). held ++ (x ++ later)) (take-length piece) ∙ sym (append_assoc held piece later) ∙ ap (λ (x : List ℕ). x ++ later) (sym is ∙ stop.bytes_are) ∙ append_assoc stop.done stop.rest later ∙ ap (λ (x : List ℕ). stop.done ++ (x ++ later)) (sym rest) in
-          ap (λ (x : List ℕ). heard (told x) begun) spelt ∙ stop.carried (kept ++ later);
-      settled =
-          ap (λ (x : List ℕ). heard (told x) new) (append-nil kept ∙ rest) ∙ ap (λ (t : List Told). heard t new) (told-none stop.rest stop.single stop.short);
-    }
+pub open-carries : (begun new : Reply) (held piece kept : List ℕ) (failed : Bool) → failed ≡ false → StopsAt begun (held ++ piece) kept new → Carries (standing begun held failed) piece (record { used = length piece; reply = None }) (standing new kept failed)
+open-carries begun new held piece kept true going stop = absurd (cc going)
+open-carries begun new held piece kept false going stop = record {
+  used = omega arith;
+  all = λ later.
+      let spelt : held ++ (take (length piece) piece ++ later) ≡ stop.done ++ (kept ++ later) =
+      ap (λ (x : List ℕ). held ++ (x ++ later)) (take-length piece) ∙ sym (append_assoc held piece later) ∙ ap (λ (x : List ℕ). x ++ later) stop.bytes_are ∙ append_assoc stop.done kept later in
+      ap (λ (x : List ℕ). heard (told x) begun) spelt ∙ stop.carried (kept ++ later);
+  settled =
+      ap (λ (x : List ℕ). heard (told x) new) (append-nil kept) ∙ ap (λ (t : List Told). heard t new) (told-none kept stop.single stop.short);
+}
 
 -- a line's end stands in the piece, since none was held
 pub ended-within : (held piece front rest : List ℕ) → Lacks 10 held → held ++ piece ≡ front ++ 10 ∷ rest → length rest ≤ length piece
@@ -60,10 +55,10 @@ ended-taken held piece front rest same within =
     sym (take-append-add held piece (length piece - length rest)) ∙ ap (λ (n : ℕ). take n (held ++ piece)) place ∙ ap (λ (x : List ℕ). take (length line) x) (same ∙ whole) ∙ take-append_seam line rest
 
 -- the reply is told, and the next one begins behind it
-pub ended-carries : (begun new reply next : Reply) (held piece bytes kept : List ℕ) (left : ℕ) (failed : Bool) → failed ≡ false → Lacks 10 held → bytes ≡ held ++ piece → StopsEnded begun bytes left new → reply ≡ new → next ≡ nothing → kept ≡ [] → Carries (standing begun held failed) piece (record { used = length piece - left; reply = Some reply }) (standing next kept failed)
-ended-carries begun new reply next held piece bytes kept left true going lacks is stop reply_is next_is kept_is = absurd (cc going)
-ended-carries begun new reply next held piece bytes kept left false going lacks is stop reply_is next_is kept_is =
-    let same = sym is ∙ stop.bytes_are in
+pub ended-carries : (begun new reply next : Reply) (held piece kept : List ℕ) (left : ℕ) (failed : Bool) → failed ≡ false → Lacks 10 held → StopsEnded begun (held ++ piece) left new → reply ≡ new → next ≡ nothing → kept ≡ [] → Carries (standing begun held failed) piece (record { used = length piece - left; reply = Some reply }) (standing next kept failed)
+ended-carries begun new reply next held piece kept left true going lacks stop reply_is next_is kept_is = absurd (cc going)
+ended-carries begun new reply next held piece kept left false going lacks stop reply_is next_is kept_is =
+    let same = stop.bytes_are in
     let within = ended-within held piece stop.front stop.rest lacks same in
     let taken = ended-taken held piece stop.front stop.rest same within in
     rw (reply_is, next_is, kept_is, stop.left_is) (record {

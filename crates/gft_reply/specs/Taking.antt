@@ -42,3 +42,16 @@ abbrev pub Stops : Reply → List ℕ → Stop → Reply → Type 0
 Stops old bytes stop.Refused new = (later : List ℕ) → heard (told (bytes ++ later)) old ≡ Refused ∷ []
 Stops old bytes (stop.Open left) new = StopsOpen old bytes left new
 Stops old bytes (stop.Ended left) new = StopsEnded old bytes left new
+
+-- whole lines were taken, and the rest, which has no LF, is held
+pub record StopsAt (old : Reply) (bytes kept : List ℕ) (new : Reply) : Type 0 where
+  pub done : List ℕ
+  pub bytes_are : bytes ≡ done ++ kept
+  pub single : Lacks 10 kept
+  pub short : length kept < LINE_LIMIT
+  pub carried : (later : List ℕ) → heard (told (done ++ later)) old ≡ heard (told later) new
+
+abbrev pub TakesPiece : Reply → List ℕ → Stop → Reply → List ℕ → Type 0
+TakesPiece old bytes stop.Refused new kept = (later : List ℕ) → heard (told (bytes ++ later)) old ≡ Refused ∷ []
+TakesPiece old bytes (stop.Open left) new kept = StopsAt old bytes kept new
+TakesPiece old bytes (stop.Ended left) new kept = StopsEnded old bytes left new

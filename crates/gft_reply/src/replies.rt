@@ -1,9 +1,9 @@
-ghost use Rattle.std.specs.Prelude.{◌≡◌, ℕ, ◌≤◌, List, [], ◌∷◌, length, drop, vec_len, IsErr, IsNone, IfOk, Err};
+ghost use Rattle.std.specs.Prelude.{◌≡◌, ℕ, List, [], ◌∷◌, length, IsErr, IsNone, IfOk, Err};
 ghost use Rattle.gft_reply.specs.ReplyStream.{Refused, replies};
 ghost use Rattle.gft_reply.specs.Replies.{Carries, Fails, HasFailed, to_come};
 
 use crate::reply::Reply;
-use crate::taking::{Stop, take_lines};
+use crate::taking::{Stop, take_piece};
 use std::alloc::{AllocError, Global};
 use std::marker::Model;
 use std::mem;
@@ -97,15 +97,11 @@ impl Replies {
             return Err(ReplyError::BadReply);
         }
         let (held, code, count) = (self.bytes.len(), self.begun.code, self.begun.lines.count());
-        self.bytes.extend_from_slice(piece)?;
-        match take_lines(&mut self.begun, &self.bytes) {
-            Ok(Stop::Open { left }) => {
-                drop_front(&mut self.bytes, held + piece.len() - left);
-                Ok(Got {
-                    used: piece.len(),
-                    reply: None,
-                })
-            }
+        match take_piece(&mut self.begun, &mut self.bytes, piece) {
+            Ok(Stop::Open { .. }) => Ok(Got {
+                used: piece.len(),
+                reply: None,
+            }),
             Ok(Stop::Ended { left }) => {
                 let next = Reply::nothing(*self.bytes.allocator());
                 let reply = mem::replace(&mut self.begun, next);
@@ -128,12 +124,4 @@ impl Replies {
             }
         }
     }
-}
-
-/// Leaves what stands behind the first `count` bytes.
-fn drop_front(bytes: &mut Vec<u8>, count: usize)
-    requires { count ≤ vec_len bytes.old }
-    ensures { bytes.new.items ≡ drop count bytes.old.items }
-{
-    bytes.drain(..count);
 }

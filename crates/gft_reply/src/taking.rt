@@ -1,12 +1,14 @@
-ghost use Rattle.std.specs.Prelude.{◌≡◌, List, IfOk, OnErr};
+ghost use Rattle.std.specs.Prelude.{◌≡◌, ◌++◌, List, length, take, IfOk, OnOk, OnErr};
+ghost use Rattle.gft_base.specs.Parts.{Lacks};
 ghost use Rattle.gft_reply.specs.declared.reply.Reply.{Reply};
 ghost use Rattle.gft_reply.specs.ReplyStream.{Heard, part_behind, part_then};
-ghost use Rattle.gft_reply.specs.Taking.{Grows, Stops, heard_behind};
+ghost use Rattle.gft_reply.specs.Taking.{Grows, Stops, TakesPiece, heard_behind};
 
 use crate::part::{part_of, without_return};
 use crate::reply::{LINE_COUNT_LIMIT, Reply};
 use gft_base::{OutOfMemory, split_first};
 use gft_text::LINE_LIMIT;
+use std::alloc::AllocError;
 
 /// What a line did to the reply that has begun.
 #[derive(Clone, Copy)]
@@ -30,9 +32,70 @@ pub(crate) enum Stop {
     Ended { left: usize },
 }
 
+/// Takes the lines of the bytes that are held, which are part of one line, and of the piece behind
+/// them, up to one that ends the reply. Where none does, the bytes of the line that has begun are
+/// held. Nothing behind the end of the reply is copied. `OutOfMemory` leaves the lines that were
+/// taken before, and what was held at the front of what is.
+pub(crate) fn take_piece(
+    begun: &mut Reply,
+    held: &mut Vec<u8>,
+    piece: &[u8],
+) -> Result<Stop, OutOfMemory>
+    requires { Lacks 10 held.old.items }
+    ensures takes { IfOk result (λ stop.
+        TakesPiece begun.old (held.old.items ++ piece.now) stop begun.new held.new.items) }
+    ensures grows { Grows begun.old begun.new }
+    ensures err { OnErr result (take (length held.old.items) held.new.items ≡ held.old.items) }
+{
+    if held.is_empty() {
+        return take_rest(begun, held, piece);
+    }
+    let (front, behind) = split_first(piece, b'\n');
+    held.extend_from_slice(front)?;
+    if held.len() >= LINE_LIMIT {
+        return Ok(Stop::Refused);
+    }
+    let Some(behind) = behind else {
+        return Ok(Stop::Open { left: held.len() });
+    };
+    match take_line(begun, without_return(held))? {
+        Taken::Refused => Ok(Stop::Refused),
+        Taken::Ended => Ok(Stop::Ended { left: behind.len() }),
+        Taken::Open => take_rest(begun, held, behind),
+    }
+}
+
+/// Takes the lines of the piece, up to one that ends the reply, and holds what is left where none
+/// does. `OutOfMemory` leaves the lines that were taken before, and what was held.
+fn take_rest(begun: &mut Reply, held: &mut Vec<u8>, piece: &[u8]) -> Result<Stop, OutOfMemory>
+    ensures takes { IfOk result (λ stop. TakesPiece begun.old piece.now stop begun.new held.new.items) }
+    ensures grows { Grows begun.old begun.new }
+    ensures err { OnErr result (held.new.items ≡ held.old.items) }
+{
+    match take_lines(begun, piece)? {
+        Stop::Refused => Ok(Stop::Refused),
+        Stop::Ended { left } => Ok(Stop::Ended { left }),
+        Stop::Open { left } => {
+            hold(held, &piece[piece.len() - left..])?;
+            Ok(Stop::Open { left })
+        }
+    }
+}
+
+/// Holds these bytes in place of all.
+fn hold(held: &mut Vec<u8>, bytes: &[u8]) -> Result<(), AllocError>
+    ensures ok { OnOk result (held.new.items ≡ bytes.now) }
+    ensures err { OnErr result (held.new.items ≡ held.old.items) }
+{
+    // The room comes first, so that a refusal changes nothing.
+    held.reserve(bytes.len())?;
+    held.clear();
+    held.extend_from_slice(bytes)
+}
+
 /// Takes the lines of these bytes, up to one that ends the reply. `OutOfMemory` leaves the lines
 /// that were taken before.
-pub(crate) fn take_lines(begun: &mut Reply, bytes: &[u8]) -> Result<Stop, OutOfMemory>
+fn take_lines(begun: &mut Reply, bytes: &[u8]) -> Result<Stop, OutOfMemory>
     ensures stops { IfOk result (λ stop. Stops begun.old bytes.now stop begun.new) }
     ensures grows { Grows begun.old begun.new }
 {

@@ -1,4 +1,4 @@
-use Rattle.std.proofs.Common.{◌≡◌, ℕ, ◌+◌, ◌-◌, List, [], length, drop, sym, ap, ◌∙◌, append-nil, arith}
+use Rattle.std.proofs.Common.{ℕ, List, [], ap, ◌∙◌, sym, append-nil, arith}
 use Rattle.std.proofs.Math.Seq.{take-length}
 use Rattle.gft_reply.specs.Replies.{to_come}
 use Rattle.gft_reply.proofs.FeedLemmas.{ended-carries, ended-within, is_nothing, open-carries}
@@ -7,19 +7,15 @@ use Rattle.gft_reply.proofs.replies.Replies.feed.Goals as goal
 pub overflow_sub-result : goal.overflow_sub-result
 overflow_sub-result c =
     let inside = c.self.inside in
-    let stop = rw c.in-Ok-Ended.field-0-is at c.in-Ok-Ended.ensures.stops in
-    let bytes = c.deref.ensures.value ∙ c.in_ok-extend_from_slice.ensures.items in
-    let within = ended-within inside.bytes.items c.args.piece.now stop.front stop.rest c.self.invariant.0 (sym bytes ∙ stop.bytes_are) in
+    let stop = rw c.in-Ok-Ended.field-0-is at c.in-Ok-Ended.ensures.takes in
+    let within = ended-within inside.bytes.items c.args.piece.now stop.front stop.rest c.self.invariant.0 stop.bytes_are in
     omega (arith, stop.left_is)
 
 pub returns-in-Ok-Open-clause-carried : goal.returns-in-Ok-Open-clause-carried
 returns-in-Ok-Open-clause-carried c =
     let inside = c.self.inside in
-    let stop = rw c.in-Ok-Open.field-0-is at c.in-Ok-Open.ensures.stops in
-    let bytes = c.deref.ensures.value ∙ c.in_ok-extend_from_slice.ensures.items in
-    let place : c.len-held.result + length c.args.piece.now - c.in-Ok-Open.left ≡ length inside.bytes.items + length c.args.piece.now - c.in-Ok-Open.left = omega (arith, inside.bytes.ok.0) in
-    let kept = c.drop_front.ensures ∙ ap (λ (n : ℕ). drop n c.extend_from_slice.new.self.items) place ∙ ap (λ (x : List ℕ). drop (length inside.bytes.items + length c.args.piece.now - c.in-Ok-Open.left) x) (sym c.deref.ensures.value) in
-    rw (← c.self.view_is) (open-carries inside.begun c.take_lines.new.begun inside.bytes.items c.args.piece.now c.deref.result.now c.drop_front.new.bytes.items c.in-Ok-Open.left inside.failed c.if-self.false bytes stop kept)
+    let stop = rw c.in-Ok-Open.field-0-is at c.in-Ok-Open.ensures.takes in
+    rw (← c.self.view_is) (open-carries inside.begun c.take_piece.new.begun inside.bytes.items c.args.piece.now c.take_piece.new.held.items inside.failed c.if-self.false stop)
 
 pub returns-in-Ok-Open-clause-refused : goal.returns-in-Ok-Open-clause-refused
 returns-in-Ok-Open-clause-refused c = λ came.
@@ -31,6 +27,5 @@ returns-in-Ok-Open-clause-refused c = λ came.
 pub returns-in-Ok-Ended-clause-carried : goal.returns-in-Ok-Ended-clause-carried
 returns-in-Ok-Ended-clause-carried c =
     let inside = c.self.inside in
-    let stop = rw c.in-Ok-Ended.field-0-is at c.in-Ok-Ended.ensures.stops in
-    let bytes = c.deref.ensures.value ∙ c.in_ok-extend_from_slice.ensures.items in
-    rw (← c.self.view_is) (ended-carries inside.begun c.take_lines.new.begun c.replace-reply.result c.replace-reply.new.dest inside.bytes.items c.args.piece.now c.deref.result.now c.clear.new.self.items c.in-Ok-Ended.left inside.failed c.if-self.false c.self.invariant.0 bytes stop c.replace-reply.ensures.value (c.replace-reply.ensures.after ∙ is_nothing c.nothing-next.result c.nothing-next.ensures.code c.nothing-next.ensures.lines) c.clear.ensures.items)
+    let stop = rw c.in-Ok-Ended.field-0-is at c.in-Ok-Ended.ensures.takes in
+    rw (← c.self.view_is) (ended-carries inside.begun c.take_piece.new.begun c.replace-reply.result c.replace-reply.new.dest inside.bytes.items c.args.piece.now c.clear.new.self.items c.in-Ok-Ended.left inside.failed c.if-self.false c.self.invariant.0 stop c.replace-reply.ensures.value (c.replace-reply.ensures.after ∙ is_nothing c.nothing-next.result c.nothing-next.ensures.code c.nothing-next.ensures.lines) c.clear.ensures.items)
