@@ -1,0 +1,2 @@
+pub mod TelnetLemmas
+pub mod VerbLemmas

@@ -1,0 +1,41 @@
+-- The forms of a verb's parameter.
+use Rattle.std.specs.Prelude.{◌≡◌, ℕ, ◌+◌, ◌<◌, ◌≤◌, ◌==◌, List, [], ◌∷◌, length, IsTrue}
+use Rattle.std.specs.Char.{to_ascii_uppercase, is_ascii_alphabetic}
+use Rattle.std.specs.List.{All, before_first}
+use Rattle.gft_base.specs.Number.{IsNumber}
+use Rattle.gft_base.specs.Parts.{Lacks}
+use Rattle.gft_text.specs.declared.lines.TheConstants.{LINE_LIMIT}
+use Rattle.gft_command.specs.Telnet.{doubled}
+use Rattle.gft_command.specs.declared.error.CommandError.{CommandError}
+use Rattle.gft_command.specs.declared.error.CommandError.TheVariants.{UnknownVerb, MissingParameter, BadParameter, OutOfMemory}
+
+abbrev pub AreSpaces : List ℕ → Type 0
+AreSpaces text = All (λ b. b ≡ 32) text
+
+-- one byte or more, as they are
+abbrev pub AreWords : List ℕ → List ℕ → Type 0
+AreWords text words = (0 < length text) × (words ≡ text)
+
+-- one letter, read as a capital; then the end, or a space and anything
+abbrev pub IsLetter : List ℕ → ℕ → Type 0
+IsLetter [] letter = ⊥
+IsLetter (b ∷ []) letter = IsTrue (is_ascii_alphabetic b) × (letter ≡ to_ascii_uppercase b)
+IsLetter (b ∷ c ∷ bs) letter = IsTrue (is_ascii_alphabetic b) × (c ≡ 32) × (letter ≡ to_ascii_uppercase b)
+
+abbrev pub IsCapital : ℕ → Type 0
+IsCapital letter = (65 ≤ letter) × (letter ≤ 90)
+
+-- a number; then the end, or a space and anything
+abbrev pub IsLeadingNumber : List ℕ → ℕ → Type 0
+IsLeadingNumber text number = IsNumber (before_first (λ b. b == 32) text) number
+
+-- the bytes stand in one line behind this verb and a space, which with its CR isn't too long
+abbrev pub FitsBytes : List ℕ → List ℕ → Type 0
+FitsBytes verb bytes = Lacks 10 bytes × (length verb + length (doubled bytes) + 2 < LINE_LIMIT)
+
+-- a form's refusal: the text has no value in it, or memory was refused
+abbrev pub Refuses : Type 0 → CommandError → Type 0
+Refuses none UnknownVerb = ⊥
+Refuses none MissingParameter = ⊥
+Refuses none BadParameter = none
+Refuses none OutOfMemory = Unit {0}

@@ -1,0 +1,9 @@
+//! The forms of a verb's parameter: a module for each, which reads a parameter, adds it to a line, and
+//! says whether a value has a text.
+
+pub(crate) mod bare;
+pub(crate) mod host_port;
+pub(crate) mod leading_number;
+pub(crate) mod letter;
+pub(crate) mod number;
+pub(crate) mod words;
