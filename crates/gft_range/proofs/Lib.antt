@@ -1,7 +1,9 @@
 pub mod FirstGapLemmas
 pub mod GapLemmas
 pub mod JoinLemmas
+pub mod ListLemmas
 pub mod NormalLemmas
 pub mod OffsetLemmas
+pub mod SearchLemmas
 pub mod TouchLemmas
 pub mod UnionLemmas

@@ -7,12 +7,14 @@
 
 mod gaps;
 mod laws;
+mod list;
 mod range;
 mod set;
 #[cfg(test)]
 mod tests;
 
 pub use gaps::Missing;
-pub use laws::one_normal_list;
+pub use laws::{lists_have_one_value, one_normal_list};
+pub use list::{ListError, MOST_ITEMS};
 pub use range::Range;
 pub use set::RangeSet;
