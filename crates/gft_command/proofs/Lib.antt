@@ -1,2 +1,4 @@
+pub mod PrintedLemmas
 pub mod TelnetLemmas
 pub mod VerbLemmas
+pub mod WrittenLemmas

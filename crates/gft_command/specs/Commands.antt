@@ -4,10 +4,11 @@ use Rattle.std.specs.List.{before_first, after_first}
 use Rattle.gft_base.specs.Number.{IsNumber}
 use Rattle.gft_text.specs.HostPort.{IsHostPort}
 use Rattle.gft_text.specs.Table.{folded}
+use Rattle.gft_range.specs.ListText.{IsList}
 use Rattle.gft_command.specs.Parameters.{AreSpaces, AreWords, IsLetter, IsLeadingNumber}
 use Rattle.gft_command.specs.Telnet.{text_of}
 use Rattle.gft_command.specs.declared.command.Command.{Command}
-use Rattle.gft_command.specs.declared.command.Command.TheVariants.{User, Pass, Quit, Noop, Feat, Pwd, Cwd, SetType, SetMode, SetStru, Dcau, Sbuf, Allo, Pasv, Spas, Port, Stor, Retr, Size, Dele, Abor}
+use Rattle.gft_command.specs.declared.command.Command.TheVariants.{User, Pass, Quit, Noop, Feat, Pwd, Cwd, SetType, SetMode, SetStru, Dcau, Sbuf, Allo, Pasv, Spas, Port, Rest, Stor, Retr, Size, Dele, Abor}
 use Rattle.gft_command.specs.declared.error.CommandError.{CommandError}
 use Rattle.gft_command.specs.declared.error.CommandError.TheVariants.{UnknownVerb, MissingParameter, BadParameter, OutOfMemory}
 
@@ -40,6 +41,7 @@ verb_of (Allo _) = codes "ALLO"
 verb_of Pasv = codes "PASV"
 verb_of Spas = codes "SPAS"
 verb_of (Port _) = codes "PORT"
+verb_of (Rest _) = codes "REST"
 verb_of (Stor _) = codes "STOR"
 verb_of (Retr _) = codes "RETR"
 verb_of (Size _) = codes "SIZE"
@@ -64,6 +66,7 @@ HasValue text (Allo number) = IsLeadingNumber text number
 HasValue text Pasv = AreSpaces text
 HasValue text Spas = AreSpaces text
 HasValue text (Port at) = IsHostPort text at
+HasValue text (Rest set) = IsList text set.ranges
 HasValue text (Stor words) = AreWords text words
 HasValue text (Retr words) = AreWords text words
 HasValue text (Size words) = AreWords text words
@@ -86,7 +89,7 @@ bare_verbs =
 
 abbrev pub parameter_verbs : List (List ℕ)
 parameter_verbs =
-    codes "USER" ∷ codes "PASS" ∷ codes "CWD" ∷ codes "STOR" ∷ codes "RETR" ∷ codes "SIZE" ∷ codes "DELE" ∷ codes "TYPE" ∷ codes "MODE" ∷ codes "STRU" ∷ codes "DCAU" ∷ codes "SBUF" ∷ codes "ALLO" ∷ codes "PORT" ∷ []
+    codes "USER" ∷ codes "PASS" ∷ codes "CWD" ∷ codes "STOR" ∷ codes "RETR" ∷ codes "SIZE" ∷ codes "DELE" ∷ codes "TYPE" ∷ codes "MODE" ∷ codes "STRU" ∷ codes "DCAU" ∷ codes "SBUF" ∷ codes "ALLO" ∷ codes "PORT" ∷ codes "REST" ∷ []
 
 -- the text's verb is one of these
 abbrev pub HasSome : List ℕ → List (List ℕ) → Type 0

@@ -29,9 +29,20 @@ IsCapital letter = (65 ≤ letter) × (letter ≤ 90)
 abbrev pub IsLeadingNumber : List ℕ → ℕ → Type 0
 IsLeadingNumber text number = IsNumber (before_first (λ b. b == 32) text) number
 
--- the bytes stand in one line behind this verb and a space, which with its CR isn't too long
+-- the line is no two lines and, with its CR, isn't too long
+abbrev pub IsWritable : List ℕ → Type 0
+IsWritable line = Lacks 10 line × (length line + 1 < LINE_LIMIT)
+
+-- the bytes stand in one line behind this verb and a space, and with its CR it isn't too long
 abbrev pub FitsBytes : List ℕ → List ℕ → Type 0
 FitsBytes verb bytes = Lacks 10 bytes × (length verb + length (doubled bytes) + 2 < LINE_LIMIT)
+
+abbrev pub FitsWords : List ℕ → List ℕ → Type 0
+FitsWords verb words = (0 < length words) × FitsBytes verb words
+
+-- a text without an LF that is far from too long
+abbrev pub IsShort : List ℕ → Type 0
+IsShort text = Lacks 10 text × (length (doubled text) ≤ 30000)
 
 -- a form's refusal: the text has no value in it, or memory was refused
 abbrev pub Refuses : Type 0 → CommandError → Type 0

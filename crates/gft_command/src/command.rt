@@ -1,12 +1,13 @@
-ghost use Rattle.std.specs.Prelude.{◌≡◌, ◌++◌, ◌↔◌, IsTrue, IfOk, IfErr};
+ghost use Rattle.std.specs.Prelude.{◌≡◌, ◌↔◌, IsTrue, IfOk, IfErr};
 ghost use Rattle.gft_command.specs.Commands.{IsCommand, RefusesLine, RefusesText, Says};
-ghost use Rattle.gft_command.specs.Written.{Fits, HasText, IsSentAs, command_text};
+ghost use Rattle.gft_command.specs.Written.{Fits, IsSentAs, IsTextOf, command_text};
 
 use crate::error::CommandError;
-use crate::forms::{bare, host_port, leading_number, letter, number, words};
+use crate::forms::{bare, host_port, leading_number, letter, list, number, words};
 use crate::line::{begin, end};
 use crate::telnet::{is_plain, past_signals, undouble};
 use gft_base::{OutOfMemory, split_word};
+use gft_range::RangeSet;
 use gft_text::{Entry, HostPort, Table, Words};
 use std::alloc::Global;
 
@@ -32,6 +33,8 @@ pub enum Command {
     Pasv,
     Spas,
     Port(HostPort),
+    /// The ranges that are stored already.
+    Rest(RangeSet),
     Stor(Words),
     Retr(Words),
     Size(Words),
@@ -51,6 +54,7 @@ macro_rules! with_verbs {
             number { Sbuf 19 "SBUF" }
             leading_number { Allo 20 "ALLO" }
             host_port { Port 22 "PORT" }
+            list { Rest 24 "REST" }
         }
     };
 }
@@ -150,4 +154,33 @@ fn parse_text(alloc: Global, text: &[u8]) -> Result<Command, CommandError>
         return Err(CommandError::UnknownVerb);
     };
     with_verbs!(parsed(alloc, code, parameter))
+}
+
+impl Command {
+    /// Whether the command has a line: what it carries is in the grammar of its verb, and bytes of its
+    /// own have no LF and make no line that is too long.
+    pub fn fits(&self) -> bool
+        ensures { IsTrue result ↔ Fits self.now }
+    {
+        with_verbs!(fitting(self))
+    }
+
+    /// The line of a command that fits: the verb in capitals, a space and the parameter, each byte 255
+    /// twice, and CR and LF. `OutOfMemory` when it can't be allocated.
+    pub fn write(&self, alloc: Global) -> Result<Vec<u8>, OutOfMemory>
+        requires { Fits self.now }
+        ensures text { IfOk result (λ text. text.items ≡ command_text self.now) }
+        ensures read_again { IfOk result (λ text. IsSentAs text.items self.now) }
+    {
+        let text = self.text(alloc)?;
+        let line = end(text)?;
+        Ok(line)
+    }
+
+    fn text(&self, alloc: Global) -> Result<Vec<u8>, OutOfMemory>
+        requires { Fits self.now }
+        ensures { IfOk result (λ text. IsTextOf text.items self.now) }
+    {
+        with_verbs!(written(alloc, self))
+    }
 }

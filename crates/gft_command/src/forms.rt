@@ -5,5 +5,6 @@ pub(crate) mod bare;
 pub(crate) mod host_port;
 pub(crate) mod leading_number;
 pub(crate) mod letter;
+pub(crate) mod list;
 pub(crate) mod number;
 pub(crate) mod words;

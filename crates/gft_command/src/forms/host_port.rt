@@ -1,7 +1,7 @@
-ghost use Rattle.std.specs.Prelude.{◌≡◌, ◌++◌, ◌↔◌, MatchResult, IsTrue, OnOk};
-ghost use Rattle.gft_text.specs.HostPort.{IsHostPort, FitsHostPort, host_port_text};
+ghost use Rattle.std.specs.Prelude.{◌≡◌, ◌++◌, MatchResult, IsTrue, OnOk};
+ghost use Rattle.gft_text.specs.HostPort.{IsHostPort, host_port_text};
 ghost use Rattle.gft_text.specs.declared.host_port.HostPort.{HostPort};
-ghost use Rattle.gft_command.specs.Parameters.{Refuses};
+ghost use Rattle.gft_command.specs.Parameters.{IsShort, Refuses};
 
 use crate::error::CommandError;
 use gft_base::OutOfMemory;
@@ -20,7 +20,9 @@ pub(crate) fn read(_alloc: Global, text: &[u8]) -> Result<HostPort, CommandError
 }
 
 pub(crate) fn append(line: &mut Vec<u8>, at: &HostPort) -> Result<(), OutOfMemory>
-    ensures { OnOk result (line.new.items ≡ line.old.items ++ host_port_text at.now) }
+    ensures added { OnOk result (line.new.items ≡ line.old.items ++ host_port_text at.now) }
+    ensures read { OnOk result (IsHostPort (host_port_text at.now) at.now) }
+    ensures short { OnOk result (IsShort (host_port_text at.now)) }
 {
     let text = write_host_port(*line.allocator(), at)?;
     line.extend_from_slice(&text)?;
@@ -28,10 +30,8 @@ pub(crate) fn append(line: &mut Vec<u8>, at: &HostPort) -> Result<(), OutOfMemor
 }
 
 /// Each address has a text.
-pub(crate) fn fits(_verb: &str, at: &HostPort) -> bool
-    ensures { IsTrue result ↔ FitsHostPort at.now }
+pub(crate) fn fits(_verb: &str, _at: &HostPort) -> bool
+    ensures { IsTrue result }
 {
-    let [_a, _b, _c, _d] = at.host;
-    let _port = at.port;
     true
 }

@@ -1,5 +1,5 @@
 ghost use Rattle.std.specs.Prelude.{◌≡◌, ◌≤◌, ◌++◌, ◌∷◌, [], ◌↔◌, ℕ, MatchResult, IsTrue, OnOk};
-ghost use Rattle.gft_command.specs.Parameters.{IsCapital, IsLetter, Refuses};
+ghost use Rattle.gft_command.specs.Parameters.{IsCapital, IsLetter, IsShort, Refuses};
 
 use crate::error::CommandError;
 use gft_base::OutOfMemory;
@@ -19,7 +19,10 @@ pub(crate) fn read(_alloc: Global, text: &[u8]) -> Result<u8, CommandError>
 }
 
 pub(crate) fn append(line: &mut Vec<u8>, letter: &u8) -> Result<(), OutOfMemory>
-    ensures { OnOk result (line.new.items ≡ line.old.items ++ letter.now ∷ []) }
+    requires { IsCapital letter.now }
+    ensures added { OnOk result (line.new.items ≡ line.old.items ++ letter.now ∷ []) }
+    ensures read { OnOk result (IsLetter (letter.now ∷ []) letter.now) }
+    ensures short { OnOk result (IsShort (letter.now ∷ [])) }
 {
     line.push(*letter)?;
     Ok(())

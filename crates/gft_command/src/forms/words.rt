@@ -1,5 +1,5 @@
 ghost use Rattle.std.specs.Prelude.{◌≡◌, ◌<◌, ◌++◌, ◌↔◌, length, MatchResult, IsTrue, OnOk};
-ghost use Rattle.gft_command.specs.Parameters.{FitsBytes, Refuses};
+ghost use Rattle.gft_command.specs.Parameters.{FitsWords, Refuses};
 
 use crate::error::CommandError;
 use crate::line::fits_parameter;
@@ -23,7 +23,7 @@ pub(crate) fn append(line: &mut Vec<u8>, words: &Words) -> Result<(), OutOfMemor
 
 pub(crate) fn fits(verb: &str, words: &Words) -> bool
     requires { length verb.now < 5 }
-    ensures { IsTrue result ↔ (0 < length words.now) × FitsBytes verb.now words.now }
+    ensures { IsTrue result ↔ FitsWords verb.now words.now }
 {
     words.count() > 0 && fits_parameter(verb, words.bytes())
 }
