@@ -1,3 +1,4 @@
+pub mod LawLemmas
 pub mod PrintedLemmas
 pub mod TelnetLemmas
 pub mod VerbLemmas

@@ -113,3 +113,8 @@ RefusesText text OutOfMemory = Unit {0}
 
 abbrev pub RefusesLine : List ℕ → CommandError → Type 0
 RefusesLine line e = RefusesText (text_of line) e
+
+-- the same command; lists of ranges name the same offsets
+abbrev pub IsSame : Command → Command → Type 0
+IsSame (Rest a) (Rest b) = a.ranges ≡ b.ranges
+IsSame a b = a ≡ b

@@ -10,8 +10,10 @@
 mod command;
 mod error;
 mod forms;
+mod laws;
 mod line;
 mod telnet;
 
 pub use command::{Command, parse};
 pub use error::CommandError;
+pub use laws::commands_have_one_value;
