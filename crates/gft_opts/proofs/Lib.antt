@@ -1,0 +1,5 @@
+pub mod ListLemmas
+pub mod PartLemmas
+pub mod RetrLemmas
+pub mod SettingLemmas
+pub mod TargetsLemmas
