@@ -148,12 +148,17 @@ key_twice text rest said setting kept some is_setting twice options is =
 -- a text says each key's values once
 pub says_one : (text : List ℕ) (ls ms : List LayoutName) (bs cs ns os : List ℕ) → Says text ls bs ns → Says text ms cs os → (ls ≡ ms) × (bs ≡ cs) × (ns ≡ os)
 says_one text ls ms bs cs ns os a b =
-    let same = AllZip-one IsSetting IsSetting-one (items_of text) a.settings b.settings a.read b.read in
-    (
+    let same = AllZip-one IsSetting IsSetting-one (items_of text) a.settings b.settings a.read b.read in (
       sym a.layouts_are ∙ ap (λ (x : List Setting). flat_map layout_in x) same ∙ b.layouts_are,
       sym a.blocks_are ∙ ap (λ (x : List Setting). flat_map block_in x) same ∙ b.blocks_are,
       sym a.starts_are ∙ ap (λ (x : List Setting). flat_map start_in x) same ∙ b.starts_are,
     )
+
+-- what makes no layout is said by no options
+pub no_layout : (text : List ℕ) (names : List LayoutName) (blocks starts : List ℕ) → Says text names blocks starts → ((layout : Option Layout) → MakesLayout names blocks layout → ⊥) → (options : RetrOptions) → IsRetr text options → ⊥
+no_layout text names blocks starts said none options is =
+    let same = says_one text _ _ _ _ _ _ said is in
+    none options.layout (record { names_are = same.0; blocks_are = same.1 })
 
 layout_one : (a b : Option Layout) → names_of a ≡ names_of b → blocks_of a ≡ blocks_of b → a ≡ b
 layout_one None None named sized = refl

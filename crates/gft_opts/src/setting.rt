@@ -115,7 +115,11 @@ fn read_parallelism(text: &[u8]) -> Option<u16>
 {
     let (start, behind) = split_first(text, b',');
     let (least, most) = split_first(behind?, b',');
-    let (start, least, most) = (read_decimal(start)?, read_decimal(least)?, read_decimal(most?)?);
+    let (start, least, most) = (
+        read_decimal(start)?,
+        read_decimal(least)?,
+        read_decimal(most?)?,
+    );
     if !are_ordered(least, start, most) {
         return None;
     }
