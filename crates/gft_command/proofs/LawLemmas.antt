@@ -13,61 +13,27 @@ use Rattle.gft_text.specs.HostPort.{IsByte, IsHostPort, numbers_of}
 use Rattle.gft_text.specs.declared.host_port.HostPort.{HostPort}
 use Rattle.gft_text.proofs.TableLemmas.{texts_apart}
 use Rattle.gft_text.proofs.HostPortLemmas.{IsHostPort-one}
-use Rattle.gft_command.specs.Commands.{HasKnownVerb, HasSome, HasVerb, IsSame, LacksParameter, RefusesText, Says, bare_verbs, parameter_in, parameter_verbs, verb_of}
+use Rattle.gft_opts.specs.Targets.{IsTargets}
+use Rattle.gft_opts.specs.Part.{IsEret, IsEsto}
+use Rattle.gft_opts.specs.declared.part.Eret.{Eret as EretValue}
+use Rattle.gft_opts.specs.declared.part.Esto.{Esto as EstoValue}
+use Rattle.gft_opts.proofs.RetrLemmas.{one as IsRetr-one}
+use Rattle.gft_opts.proofs.TargetsLemmas.{one as IsTargets-one}
+use Rattle.gft_command.specs.Commands.{HasKnownVerb, HasSome, HasVerb, IsSame, LacksParameter, RefusesText, Says, bare_verbs, known_verbs, parameter_in, parameter_verbs, verb_of}
 use Rattle.gft_command.specs.Parameters.{IsLetter}
+use Rattle.gft_command.proofs.VerbLemmas.{apart, behind, is_one, none_of, some_of}
 use Rattle.gft_command.specs.declared.command.Command.{Command}
-use Rattle.gft_command.specs.declared.command.Command.TheVariants.{User, Pass, Quit, Noop, Feat, Pwd, Cwd, SetType, SetMode, SetStru, Dcau, Sbuf, Allo, Pasv, Spas, Port, Rest, Stor, Retr, Size, Dele, Abor}
+use Rattle.gft_command.specs.declared.command.Command.TheVariants.{User, Pass, Quit, Noop, Feat, Pwd, Cwd, SetType, SetMode, SetStru, Dcau, Sbuf, Allo, Opts, Pasv, Spas, Port, Spor, Rest, Stor, Retr, Eret, Esto, Size, Dele, Abor}
 use Rattle.gft_command.specs.declared.error.CommandError.{CommandError}
 use Rattle.gft_command.specs.declared.error.CommandError.TheVariants.{UnknownVerb, MissingParameter, BadParameter, OutOfMemory}
 
--- ---- verbs
-
-apart : (text v w : List ℕ) → HasVerb text v → HasVerb text w → same_bytes (folded v) (folded w) ≡ false → ⊥
-apart text v w is_v is_w differ = texts_apart (folded v) (folded w) differ (sym is_v ∙ is_w)
-
--- a verb that differs from each of these is none of them
-none_of : (text v : List ℕ) (verbs : List (List ℕ)) → HasVerb text v → HasSome text verbs → list_all (λ w. not (same_bytes (folded v) (folded w))) verbs ≡ true → ⊥
-none_of text v [] is has differ = has
-none_of text v (w ∷ verbs) is has differ =
-    let parts = and_parts _ _ differ in
-    elim has [
-      | inl here ↦ apart text v w is here (not-true _ parts.0)
-      | inr later ↦ none_of text v verbs is later parts.1
-    ]
-
--- whether a verb is one of these
-abbrev is_one : List ℕ → List (List ℕ) → Bool
-is_one v [] = false
-is_one v (w ∷ verbs) = cond (same_bytes v w) true (is_one v verbs)
-
-same_texts : (a b : List ℕ) → same_bytes a b ≡ true → a ≡ b
-same_texts [] [] same = refl
-same_texts [] (y ∷ ys) same = cc
-same_texts (x ∷ xs) [] same = cc
-same_texts (x ∷ xs) (y ∷ ys) same =
-    let parts = and_parts _ _ same in
-    let heads = eqb-true x y parts.0 in
-    let tails = same_texts xs ys parts.1 in
-    cc
-
-some_of : (text v : List ℕ) (verbs : List (List ℕ)) → HasVerb text v → is_one v verbs ≡ true → HasSome text verbs
-some_of text v [] is one = absurd (cc one)
-some_of text v (w ∷ verbs) is one = here (same_bytes v w) refl one (some_of text v verbs is) where
-  here : (t : Bool) → same_bytes v w ≡ t → cond t true (is_one v verbs) ≡ true → (is_one v verbs ≡ true → HasSome text verbs) → HasSome text (w ∷ verbs)
-  here true same one later = inl (is ∙ ap folded (same_texts v w same))
-  here false same one later = inr (later one)
-
-behind : (text : List ℕ) (front verbs : List (List ℕ)) → HasSome text verbs → HasSome text (front ++ verbs)
-behind text [] verbs has = has
-behind text (v ∷ front) verbs has = inr (behind text front verbs has)
-
 -- each command's verb is in the table; the last equation stands for all others
-known_verb : (c : Command) → is_one (verb_of c) (bare_verbs ++ parameter_verbs) ≡ true
+known_verb : (c : Command) → is_one (verb_of c) known_verbs ≡ true
 known_verb Quit = refl
 known_verb c = refl
 
 known : (text : List ℕ) (c : Command) → Says text c → HasKnownVerb text
-known text c is = some_of text (verb_of c) (bare_verbs ++ parameter_verbs) is.verb (known_verb c)
+known text c is = some_of text (verb_of c) known_verbs is.verb (known_verb c)
 
 -- ---- parameters
 
@@ -86,6 +52,33 @@ no_list set is = empty is.items is.read where
   empty [] all = all
   empty (r ∷ items) all = elim all.0 [ inl two ↦ two.0.1 | inr one ↦ omega (arith, one.0.0.some) ]
 
+no_targets : (targets : List HostPort) → IsTargets [] targets → ⊥
+no_targets [] is = is.read
+no_targets (at ∷ targets) is = no_host_port at is.read.0
+
+eret_one : (text : List ℕ) (a b : EretValue) → IsEret text a → IsEret text b → a ≡ b
+eret_one text a b of_a of_b =
+    let words = sym of_a.words ∙ of_b.words in
+    let offset_text : of_a.offset ≡ of_b.offset = cc words in
+    let size_text : of_a.size ≡ of_b.size = cc words in
+    let path : a.path ≡ b.path = cc words in
+    let offset = IsNumber-one of_b.offset a.offset b.offset (rw (← offset_text) of_a.offset_is.number) of_b.offset_is.number in
+    let size = IsNumber-one of_b.size a.size b.size (rw (← size_text) of_a.size_is) of_b.size_is in
+    let with_offset : ℕ → EretValue = λ o. record { offset = o; size = a.size; path = a.path } in
+    let with_size : ℕ → EretValue = λ s. record { offset = b.offset; size = s; path = a.path } in
+    let with_path : List ℕ → EretValue = λ p. record { offset = b.offset; size = b.size; path = p } in
+    ap with_offset offset ∙ ap with_size size ∙ ap with_path path
+
+esto_one : (text : List ℕ) (a b : EstoValue) → IsEsto text a → IsEsto text b → a ≡ b
+esto_one text a b of_a of_b =
+    let words = sym of_a.words ∙ of_b.words in
+    let offset_text : of_a.offset ≡ of_b.offset = cc words in
+    let path : a.path ≡ b.path = cc words in
+    let offset = IsNumber-one of_b.offset a.offset b.offset (rw (← offset_text) of_a.offset_is.number) of_b.offset_is.number in
+    let with_offset : ℕ → EstoValue = λ o. record { offset = o; path = a.path } in
+    let with_path : List ℕ → EstoValue = λ p. record { offset = b.offset; path = p } in
+    ap with_offset offset ∙ ap with_path path
+
 -- where a parameter is needed and missing, there is no command
 no_value : (text : List ℕ) (c : Command) → LacksParameter text → Says text c → ⊥
 no_value text (User x) lacks is = omega (arith, (rw lacks.1 at is.value).0)
@@ -101,12 +94,16 @@ no_value text (SetStru x) lacks is = rw lacks.1 at is.value
 no_value text (Dcau x) lacks is = rw lacks.1 at is.value
 no_value text (Sbuf x) lacks is = omega (arith, (rw lacks.1 at is.value).some)
 no_value text (Allo x) lacks is = omega (arith, (rw lacks.1 at is.value).some)
+no_value text (Opts x) lacks is = omega (arith, (rw lacks.1 at is.value).spaced)
 no_value text Pasv lacks is = none_of text (codes "PASV") parameter_verbs is.verb lacks.0 refl
 no_value text Spas lacks is = none_of text (codes "SPAS") parameter_verbs is.verb lacks.0 refl
 no_value text (Port x) lacks is = no_host_port x (rw lacks.1 at is.value)
+no_value text (Spor x) lacks is = no_targets x (rw lacks.1 at is.value)
 no_value text (Rest x) lacks is = no_list x.ranges (rw lacks.1 at is.value)
 no_value text (Stor x) lacks is = omega (arith, (rw lacks.1 at is.value).0)
 no_value text (Retr x) lacks is = omega (arith, (rw lacks.1 at is.value).0)
+no_value text (Eret x) lacks is = let words = (rw lacks.1 at is.value).words in cc words
+no_value text (Esto x) lacks is = let words = (rw lacks.1 at is.value).words in cc words
 no_value text (Size x) lacks is = omega (arith, (rw lacks.1 at is.value).0)
 no_value text (Dele x) lacks is = omega (arith, (rw lacks.1 at is.value).0)
 no_value text Abor lacks is = none_of text (codes "ABOR") parameter_verbs is.verb lacks.0 refl
@@ -128,12 +125,16 @@ one text (SetStru x) (SetStru y) a b = ap SetStru (letter_one (parameter_in text
 one text (Dcau x) (Dcau y) a b = ap Dcau (letter_one (parameter_in text) x y a.value b.value)
 one text (Sbuf x) (Sbuf y) a b = ap Sbuf (IsNumber-one (parameter_in text) x y a.value b.value)
 one text (Allo x) (Allo y) a b = ap Allo (IsNumber-one _ x y a.value b.value)
+one text (Opts x) (Opts y) a b = ap Opts (IsRetr-one _ x y a.value.options_are b.value.options_are)
 one text Pasv Pasv a b = refl
 one text Spas Spas a b = refl
 one text (Port x) (Port y) a b = ap Port (IsHostPort-one (parameter_in text) x y a.value b.value)
+one text (Spor x) (Spor y) a b = ap Spor (IsTargets-one (parameter_in text) x y a.value b.value)
 one text (Rest x) (Rest y) a b = IsList-one (parameter_in text) x.ranges y.ranges a.value b.value
 one text (Stor x) (Stor y) a b = ap Stor (a.value.1 ∙ sym b.value.1)
 one text (Retr x) (Retr y) a b = ap Retr (a.value.1 ∙ sym b.value.1)
+one text (Eret x) (Eret y) a b = ap Eret (eret_one (parameter_in text) x y a.value b.value)
+one text (Esto x) (Esto y) a b = ap Esto (esto_one (parameter_in text) x y a.value b.value)
 one text (Size x) (Size y) a b = ap Size (a.value.1 ∙ sym b.value.1)
 one text (Dele x) (Dele y) a b = ap Dele (a.value.1 ∙ sym b.value.1)
 one text Abor Abor a b = refl

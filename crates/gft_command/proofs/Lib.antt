@@ -1,4 +1,5 @@
 pub mod LawLemmas
+pub mod PartFits
 pub mod PrintedLemmas
 pub mod TelnetLemmas
 pub mod VerbLemmas

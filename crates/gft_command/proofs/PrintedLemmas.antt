@@ -1,5 +1,5 @@
 -- What a grammar takes without bytes of its own is short, and printable.
-use Rattle.std.proofs.Common.{◌≡◌, ℕ, ◌+◌, ◌*◌, ◌/◌, ◌%◌, ◌<◌, ◌≤◌, Bool, true, false, eqb, ltb, ◌&&◌, List, [], ◌∷◌, ◌++◌, length, length-append, refl, ap, subst, arith, lit<, inl, inr}
+use Rattle.std.proofs.Common.{◌≡◌, ℕ, ◌+◌, ◌*◌, ◌/◌, ◌%◌, ◌<◌, ◌≤◌, ◌^◌, Bool, true, false, eqb, ltb, ◌&&◌, Option, Some, None, List, [], ◌∷◌, ◌++◌, length, length-append, append_assoc, append-nil, refl, ap, subst, arith, lit<, lit≤, codes, inl, inr}
 use Rattle.std.specs.List.{All, AllPass, AllZip, list_all, join_with_byte, before_first}
 use Rattle.std.proofs.lemmas.Bool.{and_from, lt-ltb, ne_eqb}
 use Rattle.std.proofs.lemmas.List.Elements.{All-append, All-cons, All-nil}
@@ -7,14 +7,23 @@ use Rattle.std.proofs.lemmas.List.Splits.{join_with_byte-slice_split}
 use Rattle.gft_base.specs.Number.{AreDigits, IsNumber}
 use Rattle.gft_base.specs.Parts.{parts_at, Lacks}
 use Rattle.std.proofs.lemmas.List.{take_all}
-use Rattle.gft_base.proofs.NumberLemmas.{digits_apart}
+use Rattle.gft_base.proofs.NumberLemmas.{IsNumber-decimal, digits_apart}
 use Rattle.gft_base.proofs.PartsLemmas.{place_none, position-none_from}
 use Rattle.gft_base.proofs.ZipLemmas.{AllZip-length}
 use Rattle.gft_range.specs.declared.range.Range.{Range}
 use Rattle.gft_range.specs.ListText.{AreDashed, IsItem, IsList, items_of}
 use Rattle.gft_text.specs.HostPort.{IsByte, IsHostPort}
 use Rattle.gft_text.specs.declared.host_port.HostPort.{HostPort}
-use Rattle.gft_command.specs.Parameters.{IsShort}
+use Rattle.std.specs.Fmt.{decimal}
+use Rattle.std.proofs.lemmas.List.Sums.{AllPass-from_list_all}
+use Rattle.gft_base.specs.declared.limit.TheConstants.{LIMIT}
+use Rattle.gft_layout.specs.declared.Layout.{Layout}
+use Rattle.gft_layout.specs.declared.Layout.TheVariants as layouts
+use Rattle.gft_opts.specs.Retr.{FitsLayout, FitsParallel, FitsRetr, layout_settings, parallel_settings, retr_text, settings_text}
+use Rattle.gft_opts.specs.Targets.{IsTargets}
+use Rattle.gft_opts.specs.declared.retr.RetrOptions.{RetrOptions}
+use Rattle.gft_opts.specs.declared.setting.TheConstants.{MOST_PARALLEL}
+use Rattle.gft_command.specs.Parameters.{IsShort, options_text}
 use Rattle.gft_command.specs.Telnet.{doubled}
 use Rattle.gft_command.proofs.TelnetLemmas.{doubled-plain}
 
@@ -99,3 +108,49 @@ pub list_brief : (text : List ℕ) (set : List Range) → IsList text set → Is
 list_brief text set is =
     let brief = text_brief IsItem 42 44 refl item_brief text is.items is.read in
     record { printed = brief.printed; len = omega (arith, brief.len, is.few, AllZip-length IsItem (items_of text) is.items is.read) }
+
+-- ---- what is written of options
+
+brief_append : (a b : List ℕ) (m n : ℕ) → IsBrief a m → IsBrief b n → IsBrief (a ++ b) (m + n)
+brief_append a b m n of_a of_b = record {
+  printed = All-append (λ x. is_print x ≡ true) a b of_a.printed of_b.printed;
+  len = omega (arith, of_a.len, of_b.len, length-append a b);
+}
+
+-- a text that is known
+known_brief : (text : List ℕ) (m : ℕ) → list_all is_print text ≡ true → length text ≤ m → IsBrief text m
+known_brief text m seen few = record { printed = AllPass-from_list_all is_print text seen; len = few }
+
+decimal_brief : (n : ℕ) → n < 2 ^ 64 → IsBrief (decimal n) 20
+decimal_brief n fits = number_brief (decimal n) n (IsNumber-decimal n fits)
+
+start_brief : (start : ℕ) → start ≤ MOST_PARALLEL → IsBrief (codes "Parallelism=" ++ (decimal start ++ 44 ∷ (decimal start ++ 44 ∷ (decimal start ++ 59 ∷ [])))) 90
+start_brief start most =
+    let number = decimal_brief start (omega (arith, most)) in
+    let comma = known_brief (44 ∷ []) 1 refl (lit≤ tt) in
+    let one = brief_append (decimal start) (59 ∷ []) 20 1 number (known_brief _ 1 refl (lit≤ tt)) in
+    let two = brief_append (decimal start) (44 ∷ (decimal start ++ 59 ∷ [])) 20 22 number (brief_append (44 ∷ []) _ 1 21 comma one) in
+    let three = brief_append (decimal start) (44 ∷ (decimal start ++ 44 ∷ (decimal start ++ 59 ∷ []))) 20 43 number (brief_append (44 ∷ []) _ 1 42 comma two) in
+    brief_append (codes "Parallelism=") _ 27 63 (known_brief _ 27 refl (lit≤ tt)) three
+
+block_brief : (block : ℕ) → block ≤ LIMIT → IsBrief (codes "StripeLayout=Blocked;BlockSize=" ++ (decimal block ++ 59 ∷ [])) 70
+block_brief block most =
+    brief_append (codes "StripeLayout=Blocked;BlockSize=") (decimal block ++ 59 ∷ []) 40 30 (known_brief _ 40 refl (lit≤ tt)) (brief_append (decimal block) (59 ∷ []) 20 10 (decimal_brief block (omega (arith, most))) (known_brief _ 10 refl (lit≤ tt)))
+
+layout_brief : (layout : Option Layout) → FitsLayout layout → IsBrief (settings_text (layout_settings layout)) 70
+layout_brief None fits = known_brief [] 70 refl (lit≤ tt)
+layout_brief (Some layouts.Partitioned) fits = known_brief _ 70 refl (lit≤ tt)
+layout_brief (Some (layouts.Blocked block)) fits = simp (append_assoc, append-nil) (block_brief block fits.1)
+
+parallel_brief : (parallel : Option ℕ) → FitsParallel parallel → IsBrief (settings_text (parallel_settings parallel)) 90
+parallel_brief None fits = known_brief [] 90 refl (lit≤ tt)
+parallel_brief (Some start) fits = simp (append_assoc, append-nil) (start_brief start fits.1)
+
+pub options_brief : (options : RetrOptions) → FitsRetr options → IsBrief (options_text options) 200
+options_brief options fits =
+    brief_append (codes "RETR ") (retr_text options) 40 160 (known_brief _ 40 refl (lit≤ tt)) (brief_append _ _ 70 90 (layout_brief options.layout fits.layout) (parallel_brief options.parallel fits.parallel))
+
+pub targets_brief : (text : List ℕ) (targets : List HostPort) → IsTargets text targets → IsBrief text 2032
+targets_brief text targets is =
+    let brief = text_brief IsHostPort 126 32 refl host_port_brief text targets is.read in
+    record { printed = brief.printed; len = omega (arith, brief.len, is.few) }

@@ -1,14 +1,17 @@
 -- Which lines are which command (RFC 959, sections 4.1 and 5.3; RFC 3659, section 4; GFD.20).
-use Rattle.std.specs.Prelude.{◌≡◌, ℕ, ◌++◌, ◌==◌, ◌⊎◌, List, [], ◌∷◌, length, codes}
+use Rattle.std.specs.Prelude.{◌≡◌, ℕ, ◌+◌, ◌++◌, ◌==◌, ◌&&◌, ◌⊎◌, Bool, true, false, List, [], ◌∷◌, codes}
 use Rattle.std.specs.List.{before_first, after_first}
 use Rattle.gft_base.specs.Number.{IsNumber}
 use Rattle.gft_text.specs.HostPort.{IsHostPort}
-use Rattle.gft_text.specs.Table.{folded}
+use Rattle.gft_text.specs.Table.{folded, same_bytes}
+use Rattle.gft_text.specs.declared.table.Entry.{Entry}
 use Rattle.gft_range.specs.ListText.{IsList}
-use Rattle.gft_command.specs.Parameters.{AreSpaces, AreWords, IsLetter, IsLeadingNumber}
+use Rattle.gft_opts.specs.Part.{IsEret, IsEsto}
+use Rattle.gft_opts.specs.Targets.{IsTargets}
+use Rattle.gft_command.specs.Parameters.{AreSpaces, AreWords, IsLetter, IsLeadingNumber, IsOptions}
 use Rattle.gft_command.specs.Telnet.{text_of}
 use Rattle.gft_command.specs.declared.command.Command.{Command}
-use Rattle.gft_command.specs.declared.command.Command.TheVariants.{User, Pass, Quit, Noop, Feat, Pwd, Cwd, SetType, SetMode, SetStru, Dcau, Sbuf, Allo, Pasv, Spas, Port, Rest, Stor, Retr, Size, Dele, Abor}
+use Rattle.gft_command.specs.declared.command.Command.TheVariants.{User, Pass, Quit, Noop, Feat, Pwd, Cwd, SetType, SetMode, SetStru, Dcau, Sbuf, Allo, Opts, Pasv, Spas, Port, Spor, Rest, Stor, Retr, Eret, Esto, Size, Dele, Abor}
 use Rattle.gft_command.specs.declared.error.CommandError.{CommandError}
 use Rattle.gft_command.specs.declared.error.CommandError.TheVariants.{UnknownVerb, MissingParameter, BadParameter, OutOfMemory}
 
@@ -38,12 +41,16 @@ verb_of (SetStru _) = codes "STRU"
 verb_of (Dcau _) = codes "DCAU"
 verb_of (Sbuf _) = codes "SBUF"
 verb_of (Allo _) = codes "ALLO"
+verb_of (Opts _) = codes "OPTS"
 verb_of Pasv = codes "PASV"
 verb_of Spas = codes "SPAS"
 verb_of (Port _) = codes "PORT"
+verb_of (Spor _) = codes "SPOR"
 verb_of (Rest _) = codes "REST"
 verb_of (Stor _) = codes "STOR"
 verb_of (Retr _) = codes "RETR"
+verb_of (Eret _) = codes "ERET"
+verb_of (Esto _) = codes "ESTO"
 verb_of (Size _) = codes "SIZE"
 verb_of (Dele _) = codes "DELE"
 verb_of Abor = codes "ABOR"
@@ -63,12 +70,16 @@ HasValue text (SetStru letter) = IsLetter text letter
 HasValue text (Dcau letter) = IsLetter text letter
 HasValue text (Sbuf number) = IsNumber text number
 HasValue text (Allo number) = IsLeadingNumber text number
+HasValue text (Opts options) = IsOptions text options
 HasValue text Pasv = AreSpaces text
 HasValue text Spas = AreSpaces text
 HasValue text (Port at) = IsHostPort text at
+HasValue text (Spor targets) = IsTargets text targets
 HasValue text (Rest set) = IsList text set.ranges
 HasValue text (Stor words) = AreWords text words
 HasValue text (Retr words) = AreWords text words
+HasValue text (Eret eret) = IsEret text eret
+HasValue text (Esto esto) = IsEsto text esto
 HasValue text (Size words) = AreWords text words
 HasValue text (Dele words) = AreWords text words
 HasValue text Abor = AreSpaces text
@@ -89,7 +100,18 @@ bare_verbs =
 
 abbrev pub parameter_verbs : List (List ℕ)
 parameter_verbs =
-    codes "USER" ∷ codes "PASS" ∷ codes "CWD" ∷ codes "STOR" ∷ codes "RETR" ∷ codes "SIZE" ∷ codes "DELE" ∷ codes "TYPE" ∷ codes "MODE" ∷ codes "STRU" ∷ codes "DCAU" ∷ codes "SBUF" ∷ codes "ALLO" ∷ codes "PORT" ∷ codes "REST" ∷ []
+    codes "USER" ∷ codes "PASS" ∷ codes "CWD" ∷ codes "STOR" ∷ codes "RETR" ∷ codes "SIZE" ∷ codes "DELE" ∷ codes "TYPE" ∷ codes "MODE" ∷ codes "STRU" ∷ codes "DCAU" ∷ codes "SBUF" ∷ codes "ALLO" ∷ codes "OPTS" ∷ codes "PORT" ∷ codes "SPOR" ∷ codes "REST" ∷ codes "ERET" ∷ codes "ESTO" ∷ []
+
+-- all verbs
+abbrev pub known_verbs : List (List ℕ)
+known_verbs = bare_verbs ++ parameter_verbs
+
+-- the entries are these verbs, with codes from n on
+abbrev pub are_numbered : List Entry → List (List ℕ) → ℕ → Bool
+are_numbered [] [] n = true
+are_numbered [] (v ∷ vs) n = false
+are_numbered (e ∷ es) [] n = false
+are_numbered (e ∷ es) (v ∷ vs) n = ((e.code == n) && same_bytes e.text.now v) && are_numbered es vs (n + 1)
 
 -- the text's verb is one of these
 abbrev pub HasSome : List ℕ → List (List ℕ) → Type 0
@@ -97,7 +119,7 @@ HasSome text [] = ⊥
 HasSome text (verb ∷ verbs) = HasVerb text verb ⊎ HasSome text verbs
 
 abbrev pub HasKnownVerb : List ℕ → Type 0
-HasKnownVerb text = HasSome text (bare_verbs ++ parameter_verbs)
+HasKnownVerb text = HasSome text known_verbs
 
 -- a verb that needs a parameter has none, or one of no byte
 abbrev pub LacksParameter : List ℕ → Type 0

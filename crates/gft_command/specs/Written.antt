@@ -3,11 +3,14 @@ use Rattle.std.specs.Prelude.{◌≡◌, ℕ, ◌≤◌, ◌++◌, List, [], ◌
 use Rattle.gft_text.specs.HostPort.{host_port_text}
 use Rattle.gft_text.specs.LineStream.{Line, told}
 use Rattle.gft_range.specs.ListText.{list_text}
+use Rattle.gft_opts.specs.Part.{FitsEret, FitsEsto, eret_text, esto_text}
+use Rattle.gft_opts.specs.Retr.{FitsRetr}
+use Rattle.gft_opts.specs.Targets.{FitsTargets, targets_text}
 use Rattle.gft_command.specs.Commands.{IsCommand, Says, verb_of}
-use Rattle.gft_command.specs.Parameters.{FitsBytes, FitsWords, IsCapital, IsWritable}
+use Rattle.gft_command.specs.Parameters.{FitsBytes, FitsWords, IsCapital, IsWritable, options_text}
 use Rattle.gft_command.specs.Telnet.{doubled}
 use Rattle.gft_command.specs.declared.command.Command.{Command}
-use Rattle.gft_command.specs.declared.command.Command.TheVariants.{User, Pass, Quit, Noop, Feat, Pwd, Cwd, SetType, SetMode, SetStru, Dcau, Sbuf, Allo, Pasv, Spas, Port, Rest, Stor, Retr, Size, Dele, Abor}
+use Rattle.gft_command.specs.declared.command.Command.TheVariants.{User, Pass, Quit, Noop, Feat, Pwd, Cwd, SetType, SetMode, SetStru, Dcau, Sbuf, Allo, Opts, Pasv, Spas, Port, Spor, Rest, Stor, Retr, Eret, Esto, Size, Dele, Abor}
 
 -- what stands behind the verb: a space and the parameter, where there is one
 abbrev pub behind_verb : Command → List ℕ
@@ -24,12 +27,16 @@ behind_verb (SetStru letter) = 32 ∷ letter ∷ []
 behind_verb (Dcau letter) = 32 ∷ letter ∷ []
 behind_verb (Sbuf number) = 32 ∷ decimal number
 behind_verb (Allo number) = 32 ∷ decimal number
+behind_verb (Opts options) = 32 ∷ options_text options
 behind_verb Pasv = []
 behind_verb Spas = []
 behind_verb (Port at) = 32 ∷ host_port_text at
+behind_verb (Spor targets) = 32 ∷ targets_text targets
 behind_verb (Rest set) = 32 ∷ list_text set.ranges
 behind_verb (Stor words) = 32 ∷ words
 behind_verb (Retr words) = 32 ∷ words
+behind_verb (Eret eret) = 32 ∷ eret_text eret
+behind_verb (Esto esto) = 32 ∷ esto_text esto
 behind_verb (Size words) = 32 ∷ words
 behind_verb (Dele words) = 32 ∷ words
 behind_verb Abor = []
@@ -57,12 +64,16 @@ Fits (SetStru letter) = IsCapital letter
 Fits (Dcau letter) = IsCapital letter
 Fits (Sbuf number) = Unit {0}
 Fits (Allo number) = Unit {0}
+Fits (Opts options) = FitsRetr options
 Fits Pasv = Unit {0}
 Fits Spas = Unit {0}
 Fits (Port at) = Unit {0}
+Fits (Spor targets) = FitsTargets targets
 Fits (Rest set) = length set.ranges ≤ 512
 Fits (Stor words) = FitsWords (codes "STOR") words
 Fits (Retr words) = FitsWords (codes "RETR") words
+Fits (Eret eret) = FitsEret eret × FitsBytes (codes "ERET") (eret_text eret)
+Fits (Esto esto) = FitsEsto esto × FitsBytes (codes "ESTO") (esto_text esto)
 Fits (Size words) = FitsWords (codes "SIZE") words
 Fits (Dele words) = FitsWords (codes "DELE") words
 Fits Abor = Unit {0}

@@ -1,12 +1,15 @@
 ghost use Rattle.std.specs.Prelude.{◌≡◌, ◌↔◌, IsTrue, IfOk, IfErr};
-ghost use Rattle.gft_command.specs.Commands.{IsCommand, RefusesLine, RefusesText, Says};
+ghost use Rattle.gft_command.specs.Commands.{IsCommand, RefusesLine, RefusesText, Says, are_numbered, known_verbs};
 ghost use Rattle.gft_command.specs.Written.{Fits, IsSentAs, IsTextOf, command_text};
 
 use crate::error::CommandError;
-use crate::forms::{bare, host_port, leading_number, letter, list, number, words};
+use crate::forms::{
+    bare, eret, esto, host_port, leading_number, letter, list, number, options, targets, words,
+};
 use crate::line::{begin, end};
 use crate::telnet::{is_plain, past_signals, undouble};
 use gft_base::{OutOfMemory, split_word};
+use gft_opts::{Eret, Esto, HostPorts, RetrOptions};
 use gft_range::RangeSet;
 use gft_text::{Entry, HostPort, Table, Words};
 use std::alloc::Global;
@@ -30,13 +33,17 @@ pub enum Command {
     Sbuf(u64),
     /// The length of the file to come, in bytes.
     Allo(u64),
+    Opts(RetrOptions),
     Pasv,
     Spas,
     Port(HostPort),
+    Spor(HostPorts),
     /// The ranges that are stored already.
     Rest(RangeSet),
     Stor(Words),
     Retr(Words),
+    Eret(Eret),
+    Esto(Esto),
     Size(Words),
     Dele(Words),
     Abor,
@@ -53,8 +60,12 @@ macro_rules! with_verbs {
             letter { SetType 15 "TYPE", SetMode 16 "MODE", SetStru 17 "STRU", Dcau 18 "DCAU" }
             number { Sbuf 19 "SBUF" }
             leading_number { Allo 20 "ALLO" }
+            options { Opts 21 "OPTS" }
             host_port { Port 22 "PORT" }
+            targets { Spor 23 "SPOR" }
             list { Rest 24 "REST" }
+            eret { Eret 25 "ERET" }
+            esto { Esto 26 "ESTO" }
         }
     };
 }
@@ -85,9 +96,15 @@ macro_rules! parsed {
                 bare::read($parameter)?;
                 Ok(Command::$bare)
             })*
-            _ if $parameter.is_empty() => Err(CommandError::MissingParameter),
-            $($($code => Ok(Command::$variant($form::read($alloc, $parameter)?)),)*)*
-            _ => unreachable!(),
+            _ => {
+                if $parameter.is_empty() {
+                    return Err(CommandError::MissingParameter);
+                }
+                match $verb {
+                    $($($code => Ok(Command::$variant($form::read($alloc, $parameter)?)),)*)*
+                    _ => unreachable!(),
+                }
+            }
         }
     };
 }
@@ -128,6 +145,13 @@ const VERBS: Table = Table {
     entries: with_verbs!(entries()),
 };
 
+/// The table of verbs, with codes from 1 on.
+fn verb_table() -> Table
+    ensures { IsTrue (are_numbered result.entries.now known_verbs 1) }
+{
+    VERBS
+}
+
 /// Reads a line, without its end, as a command.
 ///
 /// Telnet's signals in front are skipped, and 255 255 is one byte 255. `UnknownVerb` where the verb is
@@ -150,7 +174,8 @@ fn parse_text(alloc: Global, text: &[u8]) -> Result<Command, CommandError>
     ensures refused { IfErr result (RefusesText text.now) }
 {
     let (verb, parameter) = split_word(text, b' ');
-    let Some(code) = VERBS.find(verb) else {
+    let table = verb_table();
+    let Some(code) = table.find(verb) else {
         return Err(CommandError::UnknownVerb);
     };
     with_verbs!(parsed(alloc, code, parameter))

@@ -2,9 +2,13 @@
 //! says whether a value has a text.
 
 pub(crate) mod bare;
+pub(crate) mod eret;
+pub(crate) mod esto;
 pub(crate) mod host_port;
 pub(crate) mod leading_number;
 pub(crate) mod letter;
 pub(crate) mod list;
 pub(crate) mod number;
+pub(crate) mod options;
+pub(crate) mod targets;
 pub(crate) mod words;

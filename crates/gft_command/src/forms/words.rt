@@ -2,7 +2,7 @@ ghost use Rattle.std.specs.Prelude.{◌≡◌, ◌<◌, ◌++◌, ◌↔◌, len
 ghost use Rattle.gft_command.specs.Parameters.{FitsWords, Refuses};
 
 use crate::error::CommandError;
-use crate::line::fits_parameter;
+use crate::line::fits_behind;
 use gft_base::OutOfMemory;
 use gft_text::Words;
 use std::alloc::Global;
@@ -25,5 +25,5 @@ pub(crate) fn fits(verb: &str, words: &Words) -> bool
     requires { length verb.now < 5 }
     ensures { IsTrue result ↔ FitsWords verb.now words.now }
 {
-    words.count() > 0 && fits_parameter(verb, words.bytes())
+    words.count() > 0 && fits_behind(verb, 0, words.bytes())
 }

@@ -1,6 +1,6 @@
 use Rattle.std.proofs.Common.{◌≡◌, ℕ, List, codes, refl, rules}
-use Rattle.gft_command.specs.Parameters.{FitsBytes, FitsWords}
-use Rattle.gft_command.specs.declared.command.Command.TheVariants.{User, Pass, Cwd, Stor, Retr, Size, Dele, Sbuf, Allo, Port, Rest}
+use Rattle.gft_command.specs.Parameters.{FitsBytes, FitsWords, options_text}
+use Rattle.gft_command.specs.declared.command.Command.TheVariants.{User, Pass, Cwd, Stor, Retr, Size, Dele, Sbuf, Allo, Opts, Port, Spor, Rest, Eret, Esto}
 use Rattle.gft_command.proofs.WrittenLemmas.{said, short_fits}
 use Rattle.gft_command.proofs.command.Command.text.Goals as goal
 
@@ -47,10 +47,28 @@ pub returns-in_ok-append-in-Allo : goal.returns-in_ok-append-in-Allo
 returns-in_ok-append-in-Allo c =
     said c.args.self.now (Allo c.in-Allo.value) _ c.in-Allo.is (search rules) c.in_ok-append-in-Allo.ensures.read (short_fits (Allo c.in-Allo.value) _ c.in_ok-append-in-Allo.ensures.short)
 
+pub returns-in_ok-append-in-Opts : goal.returns-in_ok-append-in-Opts
+returns-in_ok-append-in-Opts c =
+    said c.args.self.now (Opts c.in-Opts.value) _ c.in-Opts.is (search rules) c.in_ok-append-in-Opts.ensures.read (short_fits (Opts c.in-Opts.value) (options_text c.in-Opts.value) c.in_ok-append-in-Opts.ensures.short)
+
 pub returns-in_ok-append-in-Port : goal.returns-in_ok-append-in-Port
 returns-in_ok-append-in-Port c =
     said c.args.self.now (Port c.in-Port.value) _ c.in-Port.is (search rules) c.in_ok-append-in-Port.ensures.read (short_fits (Port c.in-Port.value) _ c.in_ok-append-in-Port.ensures.short)
 
+pub returns-in_ok-append-in-Spor : goal.returns-in_ok-append-in-Spor
+returns-in_ok-append-in-Spor c =
+    said c.args.self.now (Spor c.in-Spor.value) _ c.in-Spor.is (search rules) c.in_ok-append-in-Spor.ensures.read (short_fits (Spor c.in-Spor.value) _ c.in_ok-append-in-Spor.ensures.short)
+
 pub returns-in_ok-append-in-Rest : goal.returns-in_ok-append-in-Rest
 returns-in_ok-append-in-Rest c =
     said c.args.self.now (Rest c.in-Rest.value) _ c.in-Rest.is (search rules) c.in_ok-append-in-Rest.ensures.read (short_fits (Rest c.in-Rest.value) _ c.in_ok-append-in-Rest.ensures.short)
+
+pub returns-in_ok-append-in-Eret : goal.returns-in_ok-append-in-Eret
+returns-in_ok-append-in-Eret c =
+    let fits = rw c.in-Eret.is at c.requires in
+    said c.args.self.now (Eret c.in-Eret.value) _ c.in-Eret.is (search rules) c.in_ok-append-in-Eret.ensures.read fits.1
+
+pub returns-in_ok-append-in-Esto : goal.returns-in_ok-append-in-Esto
+returns-in_ok-append-in-Esto c =
+    let fits = rw c.in-Esto.is at c.requires in
+    said c.args.self.now (Esto c.in-Esto.value) _ c.in-Esto.is (search rules) c.in_ok-append-in-Esto.ensures.read fits.1
