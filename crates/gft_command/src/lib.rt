@@ -13,6 +13,8 @@ mod forms;
 mod laws;
 mod line;
 mod telnet;
+#[cfg(test)]
+mod tests;
 
 pub use command::{Command, parse};
 pub use error::CommandError;

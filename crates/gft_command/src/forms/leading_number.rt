@@ -6,7 +6,6 @@ use crate::forms::number;
 use gft_base::{OutOfMemory, split_word};
 use std::alloc::Global;
 
-
 /// A number; then the end, or a space and anything.
 pub(crate) fn read(alloc: Global, text: &[u8]) -> Result<u64, CommandError>
     ensures { MatchResult result (IsLeadingNumber text.now)
