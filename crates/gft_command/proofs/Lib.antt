@@ -1,0 +1,6 @@
+pub mod LawLemmas
+pub mod PartFits
+pub mod PrintedLemmas
+pub mod TelnetLemmas
+pub mod VerbLemmas
+pub mod WrittenLemmas

@@ -1,0 +1,13 @@
+use Rattle.std.proofs.Common.{◌≡◌, ◌+◌, ◌<◌, ◌^◌, ◌≤◌, length}
+use Rattle.std.specs.Fmt.{decimal}
+use Rattle.gft_command.proofs.line.digit_count.Given as goal
+
+abbrev pub invariant-loop-left : goal.invariant-loop-left
+invariant-loop-left l = record {
+  digits : l.count + length (decimal l.left) ≡ length (decimal l.number) + 1;
+  few : length (decimal l.number) ≤ 20;
+  fits : l.left < 2 ^ 64;
+}
+
+abbrev pub decreases-loop-left : goal.decreases-loop-left
+decreases-loop-left l = l.left

@@ -1,0 +1,4 @@
+pub mod Commands
+pub mod Parameters
+pub mod Telnet
+pub mod Written

@@ -1,0 +1,25 @@
+-- The bytes of Telnet in a line of the control conversation (RFC 854; RFC 959, section 3.1).
+use Rattle.std.specs.Prelude.{ℕ, ◌==◌, ◌&&◌, ◌||◌, if◌then◌else◌, List, [], ◌∷◌}
+
+-- without the signals in front: interrupt process, 255 244, and data mark, 255 242
+abbrev pub past_signals : List ℕ → List ℕ
+past_signals [] = []
+past_signals (b ∷ []) = b ∷ []
+past_signals (b ∷ c ∷ bs) =
+    if (b == 255) && (c == 244 || c == 242) then past_signals bs else b ∷ c ∷ bs
+
+-- from the left, 255 255 stands for one byte 255, and each other byte for itself, a single 255 too
+abbrev pub undoubled : List ℕ → List ℕ
+undoubled [] = []
+undoubled (b ∷ []) = b ∷ []
+undoubled (b ∷ c ∷ bs) =
+    if (b == 255) && (c == 255) then b ∷ undoubled bs else b ∷ undoubled (c ∷ bs)
+
+-- each byte 255 twice
+abbrev pub doubled : List ℕ → List ℕ
+doubled [] = []
+doubled (b ∷ bs) = if b == 255 then b ∷ b ∷ doubled bs else b ∷ doubled bs
+
+-- the text that a line stands for
+abbrev pub text_of : List ℕ → List ℕ
+text_of line = undoubled (past_signals line)
