@@ -1,17 +1,14 @@
 -- No line is two commands, and none is a command and refused.
-use Rattle.std.proofs.Common.{◌≡◌, ◌≢◌, ℕ, ◌<◌, ◌/◌, ◌%◌, Bool, true, false, not, cond, ◌&&◌, eqb, List, [], ◌∷◌, ◌++◌, length, length-append, codes, inl, inr, refl, ap, sym, ◌∙◌, arith}
-use Rattle.std.specs.List.{AllZip, list_all}
-use Rattle.std.proofs.lemmas.Bool.{and_parts, both_ways, eqb-true, not-true}
+use Rattle.std.proofs.Common.{◌≡◌, ◌≢◌, ℕ, ◌/◌, ◌%◌, true, List, [], ◌∷◌, length-append, codes, inl, inr, refl, ap, sym, ◌∙◌, arith}
+use Rattle.std.specs.List.{AllZip}
 use Rattle.gft_base.specs.Parts.{parts_at}
 use Rattle.gft_base.proofs.NumberLemmas.{IsNumber-one}
 use Rattle.gft_base.proofs.ZipLemmas.{AllZip-length}
 use Rattle.gft_range.specs.declared.range.Range.{Range}
 use Rattle.gft_range.specs.ListText.{IsItem, IsList}
 use Rattle.gft_range.proofs.ListLemmas.{IsList-one}
-use Rattle.gft_text.specs.Table.{folded, same_bytes}
 use Rattle.gft_text.specs.HostPort.{IsByte, IsHostPort, numbers_of}
 use Rattle.gft_text.specs.declared.host_port.HostPort.{HostPort}
-use Rattle.gft_text.proofs.TableLemmas.{texts_apart}
 use Rattle.gft_text.proofs.HostPortLemmas.{IsHostPort-one}
 use Rattle.gft_opts.specs.Targets.{IsTargets}
 use Rattle.gft_opts.specs.Part.{IsEret, IsEsto}
@@ -19,7 +16,7 @@ use Rattle.gft_opts.specs.declared.part.Eret.{Eret as EretValue}
 use Rattle.gft_opts.specs.declared.part.Esto.{Esto as EstoValue}
 use Rattle.gft_opts.proofs.RetrLemmas.{one as IsRetr-one}
 use Rattle.gft_opts.proofs.TargetsLemmas.{one as IsTargets-one}
-use Rattle.gft_command.specs.Commands.{HasKnownVerb, HasSome, HasVerb, IsSame, LacksParameter, RefusesText, Says, bare_verbs, known_verbs, parameter_in, parameter_verbs, verb_of}
+use Rattle.gft_command.specs.Commands.{HasKnownVerb, IsSame, LacksParameter, RefusesText, Says, bare_verbs, known_verbs, parameter_in, parameter_verbs, verb_of}
 use Rattle.gft_command.specs.Parameters.{IsLetter}
 use Rattle.gft_command.proofs.VerbLemmas.{apart, behind, is_one, none_of, some_of}
 use Rattle.gft_command.specs.declared.command.Command.{Command}

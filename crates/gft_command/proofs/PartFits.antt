@@ -1,11 +1,9 @@
 -- When the parameters of ERET and ESTO stand in one line.
-use Rattle.std.proofs.Common.{◌≡◌, ℕ, ◌+◌, ◌<◌, ◌^◌, eqb, false, true, List, [], ◌∷◌, ◌++◌, length, length-append, append_assoc, zero, suc, refl, ap, ◌∙◌, subst, sym, arith}
+use Rattle.std.proofs.Common.{◌≡◌, ℕ, ◌+◌, ◌<◌, ◌^◌, eqb, false, true, List, [], ◌∷◌, ◌++◌, length, length-append, append_assoc, suc, refl, ap, ◌∙◌, subst, arith}
 use Rattle.std.specs.Fmt.{decimal}
-use Rattle.std.specs.List.{All}
 use Rattle.std.proofs.lemmas.List.Elements.{All-append, All-cons, All-nil}
 use Rattle.gft_base.specs.Parts.{Lacks}
 use Rattle.gft_base.proofs.NumberLemmas.{IsNumber-decimal}
-use Rattle.gft_text.specs.declared.lines.TheConstants.{LINE_LIMIT}
 use Rattle.gft_opts.specs.Part.{eret_text, esto_text}
 use Rattle.gft_opts.specs.declared.part.Eret.{Eret}
 use Rattle.gft_opts.specs.declared.part.Esto.{Esto}

@@ -5,7 +5,7 @@ use Rattle.std.proofs.lemmas.Bool.{and_from, lt-ltb, ne_eqb}
 use Rattle.std.proofs.lemmas.List.Elements.{All-append, All-cons, All-nil}
 use Rattle.std.proofs.lemmas.List.Splits.{join_with_byte-slice_split}
 use Rattle.gft_base.specs.Number.{AreDigits, IsNumber}
-use Rattle.gft_base.specs.Parts.{parts_at, Lacks}
+use Rattle.gft_base.specs.Parts.{parts_at}
 use Rattle.std.proofs.lemmas.List.{take_all}
 use Rattle.gft_base.proofs.NumberLemmas.{IsNumber-decimal, digits_apart}
 use Rattle.gft_base.proofs.PartsLemmas.{place_none, position-none_from}
@@ -24,7 +24,6 @@ use Rattle.gft_opts.specs.Targets.{IsTargets}
 use Rattle.gft_opts.specs.declared.retr.RetrOptions.{RetrOptions}
 use Rattle.gft_opts.specs.declared.setting.TheConstants.{MOST_PARALLEL}
 use Rattle.gft_command.specs.Parameters.{IsShort, options_text}
-use Rattle.gft_command.specs.Telnet.{doubled}
 use Rattle.gft_command.proofs.TelnetLemmas.{doubled-plain}
 
 -- a space, or a byte of ASCII that is seen

@@ -1,11 +1,11 @@
 -- Telnet's bytes.
-use Rattle.std.proofs.Common.{◌≡◌, ℕ, ◌+◌, ◌<◌, ◌≤◌, Option, Some, None, Bool, true, false, not, cond, eqb, List, [], ◌∷◌, ◌++◌, length, zero, suc, refl, ap, sym, ◌∙◌, arith, rules}
+use Rattle.std.proofs.Common.{◌≡◌, ℕ, ◌+◌, Option, Some, None, Bool, true, false, not, cond, eqb, List, [], ◌∷◌, ◌++◌, length, zero, suc, refl, ap, sym, ◌∙◌, arith}
 use Rattle.std.specs.List.{All, count_by, position}
 use Rattle.std.specs.Option.{is_some}
 use Rattle.std.proofs.lemmas.List.Sums.{sum_by-cons}
 use Rattle.gft_base.proofs.PartsLemmas.{position-None, position-none_from}
 use Rattle.gft_base.specs.Parts.{Lacks}
-use Rattle.gft_command.specs.Telnet.{past_signals, undoubled, doubled}
+use Rattle.gft_command.specs.Telnet.{undoubled, doubled}
 
 -- no byte of it is 255
 abbrev pub IsPlain : List ℕ → Type 0

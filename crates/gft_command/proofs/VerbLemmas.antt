@@ -1,5 +1,5 @@
 -- The table of verbs.
-use Rattle.std.proofs.Common.{◌≡◌, ℕ, ◌+◌, ◌-◌, ◌<◌, ◌≤◌, Bool, true, false, not, cond, ◌&&◌, eqb, List, [], ◌∷◌, ◌++◌, length, get_or, codes, map, inl, inr, zero, suc, refl, ap, sym, ◌∙◌, arith}
+use Rattle.std.proofs.Common.{◌≡◌, ℕ, ◌+◌, ◌-◌, ◌<◌, ◌≤◌, Bool, true, false, not, cond, eqb, List, [], ◌∷◌, ◌++◌, length, get_or, codes, inl, inr, zero, suc, refl, ap, sym, ◌∙◌, arith}
 use Rattle.std.specs.List.{Contains, list_all}
 use Rattle.std.proofs.lemmas.Bool.{and_parts, eqb-true, eqb-false, not-true}
 use Rattle.gft_base.specs.Number.{IsNumber}
@@ -15,10 +15,10 @@ use Rattle.gft_opts.specs.Targets.{IsTargets}
 use Rattle.gft_opts.specs.declared.part.Eret.{Eret as EretValue}
 use Rattle.gft_opts.specs.declared.part.Esto.{Esto as EstoValue}
 use Rattle.gft_opts.specs.declared.retr.RetrOptions.{RetrOptions}
-use Rattle.gft_command.specs.Commands.{HasKnownVerb, HasSome, HasVerb, LacksParameter, RefusesText, Says, are_numbered, bare_verbs, known_verbs, parameter_in, parameter_verbs, verb_in, verb_of}
+use Rattle.gft_command.specs.Commands.{HasKnownVerb, HasSome, HasVerb, RefusesText, Says, are_numbered, bare_verbs, known_verbs, parameter_in, parameter_verbs, verb_in, verb_of}
 use Rattle.gft_command.specs.Parameters.{AreSpaces, IsLeadingNumber, IsLetter, IsOptions, Refuses}
 use Rattle.gft_command.specs.declared.command.Command.{Command}
-use Rattle.gft_command.specs.declared.command.Command.TheVariants.{User, Pass, Quit, Noop, Feat, Pwd, Cwd, SetType, SetMode, SetStru, Dcau, Sbuf, Allo, Opts, Pasv, Spas, Port, Spor, Rest, Stor, Retr, Eret, Esto, Size, Dele, Abor}
+use Rattle.gft_command.specs.declared.command.Command.TheVariants.{Quit, Noop, Feat, Pwd, SetType, SetMode, SetStru, Dcau, Sbuf, Allo, Opts, Pasv, Spas, Port, Spor, Rest, Eret, Esto, Abor}
 use Rattle.gft_command.specs.declared.error.CommandError.{CommandError}
 use Rattle.gft_command.specs.declared.error.CommandError.TheVariants.{UnknownVerb, MissingParameter, BadParameter, OutOfMemory}
 

@@ -1,15 +1,15 @@
 -- A written command is read as the same one.
-use Rattle.std.proofs.Common.{◌≡◌, ℕ, ◌+◌, ◌-◌, ◌<◌, ◌≤◌, Bool, true, false, cond, eqb, ◌⊎◌, List, [], ◌∷◌, ◌++◌, length, length-append, append-nil, append_assoc, drop, zero, suc, refl, ap, sym, ◌∙◌, subst, arith, lit≤, inl, inr}
-use Rattle.std.specs.List.{All, list_all}
+use Rattle.std.proofs.Common.{◌≡◌, ℕ, ◌-◌, ◌<◌, ◌≤◌, Bool, true, false, cond, eqb, ◌⊎◌, List, [], ◌∷◌, ◌++◌, length, length-append, append-nil, append_assoc, drop, zero, suc, refl, ap, sym, ◌∙◌, subst, arith, lit≤, inl, inr}
+use Rattle.std.specs.List.{list_all}
 use Rattle.std.specs.Str.Lines.{strip_carriage_return}
 use Rattle.std.proofs.lemmas.List.Elements.{All-append, All-cons, All-nil}
 use Rattle.std.proofs.lemmas.List.Sums.{AllPass-from_list_all}
 use Rattle.std.proofs.Math.Seq.{get_or-append_seam, take-append_seam}
 use Rattle.gft_base.specs.Parts.{Lacks}
-use Rattle.gft_text.specs.LineStream.{Told, Line, told}
+use Rattle.gft_text.specs.LineStream.{Line, told}
 use Rattle.gft_text.specs.declared.lines.TheConstants.{LINE_LIMIT}
 use Rattle.gft_text.proofs.LineLemmas.{told-line}
-use Rattle.gft_command.specs.Commands.{HasValue, HasVerb, IsCommand, Says, parameter_in, verb_of}
+use Rattle.gft_command.specs.Commands.{HasValue, HasVerb, parameter_in, verb_of}
 use Rattle.gft_command.specs.Parameters.{FitsBytes, IsShort, IsWritable}
 use Rattle.gft_command.specs.Telnet.{doubled, past_signals, text_of, undoubled}
 use Rattle.gft_command.specs.Written.{IsSentAs, IsTextOf, behind_verb, text_for}

@@ -1,4 +1,4 @@
-use Rattle.std.proofs.Common.{ℕ, List, arith, codes, refl, rules, sym, ◌∙◌}
+use Rattle.std.proofs.Common.{List, arith, codes, refl, sym, ◌∙◌}
 use Rattle.std.proofs.lemmas.Result.{err_from_is_err_and}
 use Rattle.gft_text.specs.declared.table.Entry.{Entry}
 use Rattle.gft_command.specs.Commands.{HasVerb}

@@ -1,4 +1,4 @@
-use Rattle.std.proofs.Common.{◌<◌, ◌^◌, ℕ, List, ◌∷◌, [], ap, length, length-append, ◌/◌, ◌+◌, ◌%◌, arith, lit<, rules}
+use Rattle.std.proofs.Common.{ℕ, ◌∷◌, [], ap, length, length-append, ◌/◌, ◌+◌, ◌%◌, arith}
 use Rattle.std.specs.Fmt.{decimal}
 use Rattle.std.proofs.lemmas.Fmt.{decimal_digit, decimal_step, length-decimal-le}
 use Rattle.gft_command.proofs.line.digit_count.Goals as goal

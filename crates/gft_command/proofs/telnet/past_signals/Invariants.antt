@@ -1,4 +1,4 @@
-use Rattle.std.proofs.Common.{◌≡◌, ◌-◌, length}
+use Rattle.std.proofs.Common.{◌≡◌, length}
 use Rattle.gft_command.specs.Telnet.{past_signals}
 use Rattle.gft_command.proofs.telnet.past_signals.Given as goal
 

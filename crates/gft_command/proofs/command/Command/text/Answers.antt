@@ -1,5 +1,5 @@
-use Rattle.std.proofs.Common.{◌≡◌, ℕ, List, codes, refl, rules}
-use Rattle.gft_command.specs.Parameters.{FitsBytes, FitsWords, options_text}
+use Rattle.std.proofs.Common.{codes, refl, rules}
+use Rattle.gft_command.specs.Parameters.{FitsWords, options_text}
 use Rattle.gft_command.specs.declared.command.Command.TheVariants.{User, Pass, Cwd, Stor, Retr, Size, Dele, Sbuf, Allo, Opts, Port, Spor, Rest, Eret, Esto}
 use Rattle.gft_command.proofs.WrittenLemmas.{said, short_fits}
 use Rattle.gft_command.proofs.command.Command.text.Goals as goal
