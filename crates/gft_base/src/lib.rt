@@ -15,4 +15,4 @@ pub use errors::{Failed, OutOfMemory};
 pub use faults::Faults;
 pub use limit::LIMIT;
 pub use number::read_decimal;
-pub use parts::{find_byte, split_first, split_word, strip_front};
+pub use parts::{count_parts, find_byte, split_first, split_word, strip_front};

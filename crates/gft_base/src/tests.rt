@@ -31,6 +31,7 @@ fn a_text_is_cut_at_its_first_separator(rt: HostRuntime) {
     assert_eq!(rt; front, b"abc".as_slice());
     assert_eq!(rt; rest, None);
     assert_eq!(rt; find_byte(b"abc", b'c'), Some(2));
+    assert_eq!(rt; count_parts(b"a,,b", b','), 3);
 }
 
 #[test]

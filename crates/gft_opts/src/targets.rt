@@ -1,12 +1,11 @@
-ghost use Rattle.std.specs.Prelude.{◌≡◌, List, length, IfOk, IfErr};
-ghost use Rattle.gft_base.specs.Parts.{parts_at};
+ghost use Rattle.std.specs.Prelude.{◌≡◌, List, IfOk, IfErr};
 ghost use Rattle.gft_text.specs.declared.host_port.HostPort.{HostPort};
 ghost use Rattle.gft_opts.specs.Refusal.{Refuses};
 ghost use Rattle.gft_opts.specs.Targets.{FitsTargets, IsTargets, targets_text};
 
 use crate::error::OptsError;
 use crate::host_ports::HostPorts;
-use gft_base::{OutOfMemory, split_first};
+use gft_base::{OutOfMemory, count_parts, split_first};
 use gft_text::{read_host_port, write_host_port};
 use std::alloc::Global;
 
@@ -20,7 +19,7 @@ pub fn read_targets(alloc: Global, text: &[u8]) -> Result<HostPorts, OptsError>
     ensures none { IfErr result
         (Refuses ((targets : List HostPort) → ¬ IsTargets text.now targets)) }
 {
-    let count = count_parts(text);
+    let count = count_parts(text, b' ');
     if count > MOST_TARGETS {
         return Err(OptsError::BadParameter);
     }
@@ -35,19 +34,6 @@ pub fn read_targets(alloc: Global, text: &[u8]) -> Result<HostPorts, OptsError>
         rest = after;
     }
     Ok(targets)
-}
-
-/// How many parts the spaces make.
-fn count_parts(text: &[u8]) -> usize
-    ensures { result ≡ length (parts_at 32 text.now) }
-{
-    let mut parts = 1;
-    for byte in text {
-        if *byte == b' ' {
-            parts += 1;
-        }
-    }
-    parts
 }
 
 /// The text of targets that fit, without leading zeros. `OutOfMemory` when it can't be allocated.

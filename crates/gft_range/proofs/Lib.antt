@@ -1,4 +1,3 @@
-pub mod DigitLemmas
 pub mod FirstGapLemmas
 pub mod GapLemmas
 pub mod JoinLemmas

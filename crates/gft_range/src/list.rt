@@ -1,6 +1,5 @@
 ghost use Rattle.std.specs.Prelude.{◌≡◌, ◌<◌, ◌≤◌, ◌^◌, ℕ, ◌++◌, List, length, IfOk, IfErr, OnOk, MatchOption, ◌+◌, ◌↔◌, ◌⊎◌};
 ghost use Rattle.std.specs.String.{string_bytes};
-ghost use Rattle.gft_base.specs.Number.{IsNumber};
 ghost use Rattle.gft_range.specs.Range.{InRange, HasOffset};
 ghost use Rattle.gft_range.specs.Normal.{IsNormal};
 ghost use Rattle.gft_range.specs.ListText.{IsItem, IsList, HasNoList, FirstBadAt, Refuses, FitRanges, items_of, range_text, list_text};
@@ -9,15 +8,12 @@ ghost use Rattle.gft_range.specs.declared.range.Range.{Range};
 
 use crate::range::Range;
 use crate::set::RangeSet;
-use gft_base::{OutOfMemory, read_decimal, split_first};
+use gft_base::{OutOfMemory, count_parts, read_decimal, split_first};
 use std::alloc::Global;
 use thiserror::Error;
 
 /// The most items of a list that is read, and the most ranges of one that is written.
 pub const MOST_ITEMS: usize = 512;
-
-/// Any number of so many digits has 64 bits.
-const SURE_DIGITS: usize = 19;
 
 /// Why a text is no list of ranges.
 #[derive(Clone, Copy, Debug, PartialEq, Eq, Error)]
@@ -55,7 +51,7 @@ impl RangeSet {
         ensures none { IfErr result (HasNoList text.now) }
         ensures normal { IfOk result (λ set. IsNormal set.ranges) }
     {
-        let items = count_items(text);
+        let items = count_parts(text, b',');
         if items > MOST_ITEMS {
             return Err(ListError::TooMany { items });
         }
@@ -77,19 +73,6 @@ impl RangeSet {
     {
         write_ranges(*self.ranges.allocator(), &self.ranges)
     }
-}
-
-/// How many items a text has, one more than commas.
-fn count_items(text: &[u8]) -> usize
-    ensures { result ≡ length (items_of text.now) }
-{
-    let mut items = 1;
-    for byte in text {
-        if *byte == b',' {
-            items += 1;
-        }
-    }
-    items
 }
 
 /// Adds the items of the text, or gives the place of the first that is ill-formed.
@@ -128,37 +111,20 @@ fn read_item(text: &[u8]) -> Option<Range>
     ensures { MatchOption result ((r : Range) → ¬ IsItem text.now r) (IsItem text.now) }
 {
     let (first, after) = split_first(text, b'-');
-    let first = read_end(first)?;
+    let first = read_decimal(first)?;
     match after {
         None => Some(Range {
             start: 0,
             end: first,
         }),
         Some(rest) => {
-            let end = read_end(rest)?;
+            let end = read_decimal(rest)?;
             if first > end {
                 return None;
             }
             Some(Range { start: first, end })
         }
     }
-}
-
-/// As `read_decimal`, and faster: 19 digits are below 2^64, so that none needs a test.
-fn read_end(text: &[u8]) -> Option<u64>
-    ensures { MatchOption result ((n : ℕ) → ¬ IsNumber text.now n) (IsNumber text.now) }
-{
-    if text.is_empty() || text.len() > SURE_DIGITS {
-        return read_decimal(text);
-    }
-    let mut number = 0;
-    for byte in text {
-        if *byte < b'0' || *byte > b'9' {
-            return None;
-        }
-        number = number * 10 + u64::from(*byte - b'0');
-    }
-    Some(number)
 }
 
 /// The text of these ranges, or `0-0` where there is none.
