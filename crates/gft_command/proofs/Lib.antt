@@ -1,3 +1,4 @@
+pub mod FitLemmas
 pub mod LawLemmas
 pub mod PartFits
 pub mod PrintedLemmas

@@ -12,7 +12,7 @@ use Rattle.gft_command.specs.Telnet.{doubled}
 use Rattle.gft_command.proofs.PrintedLemmas.{IsPrinted, is_print, number_brief, printed_apart}
 use Rattle.gft_command.proofs.TelnetLemmas.{doubled-append, doubled-plain}
 
-lacks_behind : (front text : List ℕ) → Lacks 10 (front ++ text) → Lacks 10 text
+pub lacks_behind : (front text : List ℕ) → Lacks 10 (front ++ text) → Lacks 10 text
 lacks_behind [] text lacks = lacks
 lacks_behind (b ∷ front) text lacks = lacks_behind front text (λ k d lt. lacks (suc k) d (omega (arith, lt)))
 

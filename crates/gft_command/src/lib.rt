@@ -3,6 +3,7 @@
 //!
 //! Begin with [`parse`], and with `specs/Commands.antt`, which says which lines are which command.
 //! [`Command::write`] gives the one text of a command, and [`Command::fits`] says whether it has one.
+//! Each command that was read has one, unless its own line has an LF or is too long.
 //! The verbs stand in one place, `with_verbs!` in `command.rt`. Nothing here reads a socket or looks
 //! at a file: a name of a file is any bytes.
 #![tactic(auto)]

@@ -19,6 +19,7 @@ use Rattle.gft_range.specs.ListText.{AreDashed, IsItem, IsList, FirstBadAt, FitR
 use Rattle.gft_range.specs.Adding.{AddsItems}
 use Rattle.gft_range.proofs.NormalLemmas.{one_list}
 use Rattle.gft_range.proofs.OffsetLemmas.{HasOffset-append}
+use Rattle.gft_range.proofs.UnionLemmas.{normal_few}
 
 -- ---- one item
 
@@ -152,6 +153,11 @@ IsList-one text a b is_a is_b =
     let P : List Range → Type 0 = λ items. (x : ℕ) → HasOffset a x ↔ HasOffset items x in
     let both = subst P same is_a.offsets in
     one_list a b is_a.normal is_b.normal (λ x. (λ h. (is_b.offsets x).1 ((both x).0 h), λ h. (both x).1 ((is_b.offsets x).0 h)))
+
+-- the items are few, and so are the ranges of their set
+pub IsList-few : (text : List ℕ) (set : List Range) → IsList text set → length set ≤ 512
+IsList-few text set is =
+    omega (arith, is.few, AllZip-length IsItem (items_of text) is.items is.read, normal_few set is.items is.normal is.offsets)
 
 -- ---- what is written is read again
 

@@ -12,9 +12,11 @@ pub fn one_normal_list()
         ((x : ℕ) → HasOffset a x ↔ HasOffset b x) → a ≡ b }
 {}
 
-/// No text names two sets, and the text that is written of a set names it.
+/// No text names two sets, the set that a text names has at most 512 ranges, and the text that is
+/// written of a set names it.
 pub fn lists_have_one_value()
     ensures one { (text : List ℕ) (a b : List Range) → IsList text a → IsList text b → a ≡ b }
+    ensures few { (text : List ℕ) (set : List Range) → IsList text set → length set ≤ 512 }
     ensures written { (set : List Range) → IsNormal set → FitRanges set → length set ≤ 512 →
         IsList (list_text set) set }
 {}

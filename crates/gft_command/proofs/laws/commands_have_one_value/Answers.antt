@@ -1,4 +1,5 @@
 use Rattle.gft_command.specs.Telnet.{text_of}
+use Rattle.gft_command.proofs.FitLemmas.{said_fits}
 use Rattle.gft_command.proofs.LawLemmas.{one, taken, one_refusal}
 use Rattle.gft_command.proofs.laws.commands_have_one_value.Goals as goal
 
@@ -10,3 +11,6 @@ returns-clause-taken c = λ line. taken (text_of line)
 
 pub returns-clause-refused : goal.returns-clause-refused
 returns-clause-refused c = λ line. one_refusal (text_of line)
+
+pub returns-clause-fits : goal.returns-clause-fits
+returns-clause-fits c = λ line. said_fits (text_of line)
