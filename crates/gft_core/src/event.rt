@@ -21,9 +21,9 @@ pub enum CoreEvent {
     Eof {
         total: u64,
     },
-    /// A data connection was lost before its EOD.
+    /// A data connection was lost before its EOD, or what it brought was refused.
     Lost,
-    /// A call to the outside failed, or a block was refused.
+    /// A call to the outside failed.
     Fault,
     /// The transfer was ended from outside.
     Abort,
