@@ -38,14 +38,14 @@ generation [] = []
 generation (Fresh ∷ older) = Fresh ∷ []
 generation (e ∷ older) = e ∷ generation older
 
--- the byte at x of the earliest answered block that has one
-abbrev pub earliest : List CoreEvent → ℕ → Option ℕ
-earliest [] x = None
-earliest (e ∷ older) x = first (earliest older x) (answered e x)
+-- the kept byte at x in one generation: that of the earliest answered block which has one
+abbrev pub kept_in : List CoreEvent → ℕ → Option ℕ
+kept_in [] x = None
+kept_in (e ∷ older) x = first (kept_in older x) (answered e x)
 
--- the kept byte at x: that of the earliest answered block of the last generation
+-- the kept byte at x, in the last generation
 abbrev pub kept : List CoreEvent → ℕ → Option ℕ
-kept events x = earliest (generation events) x
+kept events x = kept_in (generation events) x
 
 abbrev pub Booked : List CoreEvent → ℕ → Type 0
 Booked events x = (v : ℕ) × (kept events x ≡ Some v)

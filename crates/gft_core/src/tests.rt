@@ -97,6 +97,6 @@ fn rows_of_events(rt: HostRuntime) -> Result<(), Fail> {
         assert_eq!(rt; core.kept_byte(0), byte, "{told:?}");
         assert_eq!(rt; core.is_done(), done, "{told:?}");
     }
-    honest_law();
+    laws::honest_law();
     Ok(())
 }
