@@ -1,14 +1,12 @@
 -- A written command is read as the same one.
-use Rattle.std.proofs.Common.{◌≡◌, ℕ, ◌-◌, ◌<◌, ◌≤◌, Bool, true, false, cond, eqb, ◌⊎◌, List, [], ◌∷◌, ◌++◌, length, length-append, append-nil, append_assoc, drop, zero, suc, refl, ap, sym, ◌∙◌, subst, arith, lit≤, inl, inr}
+use Rattle.std.proofs.Common.{◌≡◌, ℕ, ◌<◌, ◌≤◌, Bool, true, false, cond, eqb, ◌⊎◌, List, [], ◌∷◌, ◌++◌, length, length-append, append-nil, append_assoc, drop, zero, suc, refl, ap, sym, ◌∙◌, subst, arith, lit≤, inl, inr}
 use Rattle.std.specs.List.{list_all}
-use Rattle.std.specs.Str.Lines.{strip_carriage_return}
 use Rattle.std.proofs.lemmas.List.Elements.{All-append, All-cons, All-nil}
 use Rattle.std.proofs.lemmas.List.Sums.{AllPass-from_list_all}
-use Rattle.std.proofs.Math.Seq.{get_or-append_seam, take-append_seam}
 use Rattle.gft_base.specs.Parts.{Lacks}
 use Rattle.gft_text.specs.LineStream.{Line, told}
 use Rattle.gft_text.specs.declared.lines.TheConstants.{LINE_LIMIT}
-use Rattle.gft_text.proofs.LineLemmas.{told-line}
+use Rattle.gft_text.proofs.LineLemmas.{told-line, without_return}
 use Rattle.gft_command.specs.Commands.{HasValue, HasVerb, parameter_in, verb_of}
 use Rattle.gft_command.specs.Parameters.{FitsBytes, IsShort, IsWritable}
 use Rattle.gft_command.specs.Telnet.{doubled, past_signals, text_of, undoubled}
@@ -93,11 +91,6 @@ text_is c text same value fits = rw same (record {
 })
 
 -- ---- sent and read
-
-without_return : (bytes : List ℕ) → strip_carriage_return (bytes ++ 13 ∷ []) ≡ bytes
-without_return bytes =
-    let place : length (bytes ++ 13 ∷ []) - 1 ≡ length bytes = omega (arith, length-append bytes (13 ∷ [])) in
-    rw (place, get_or-append_seam bytes 13 [] 0) (take-append_seam bytes (13 ∷ []))
 
 pub sent : (bytes text : List ℕ) (c : Command) → bytes ≡ doubled text ++ 13 ∷ 10 ∷ [] → IsTextOf text c → IsSentAs bytes c
 sent bytes text c bytes_are is =

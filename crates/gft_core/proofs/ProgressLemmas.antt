@@ -73,7 +73,7 @@ Counts-eod lane transfer old new same more c =
     }
 
 -- an Eod that fits is taken
-eod_fits : (known : Option ℕ) (taken n : ℕ) → n ≤ 1024 → ((k : ℕ) → known ≡ Some k → k ≡ n) → taken + 1 ≤ n → eod_refusal (record { total = known; eods = taken }) ≡ None
+pub eod_fits : (known : Option ℕ) (taken n : ℕ) → n ≤ 1024 → ((k : ℕ) → known ≡ Some k → k ≡ n) → taken + 1 ≤ n → eod_refusal (record { total = known; eods = taken }) ≡ None
 eod_fits None taken n most is below = ap (λ (c : Bool). if c then Some (TooManyEods 1024) else None) (lt-leb 1024 taken (omega arith))
 eod_fits (Some k) taken n most is below =
     let k_is = is k refl in ap (λ (c : Bool). if c then Some (TooManyEods k) else None) (lt-leb k taken (omega arith))
@@ -107,7 +107,7 @@ totals_fit (Some k) taken new is le =
     ap (λ (c : Bool). if c then eods_refusal taken new else Some (TwoTotals k new)) (eq-eqb k new (is k refl)) ∙ eods_fit taken new le
 
 -- an Eof that fits is taken
-eof_fits : (count : Count) (new : ℕ) → 1 ≤ new → new ≤ 1024 → ((k : ℕ) → count.total ≡ Some k → k ≡ new) → count.eods ≤ new → eof_refusal count new ≡ None
+pub eof_fits : (count : Count) (new : ℕ) → 1 ≤ new → new ≤ 1024 → ((k : ℕ) → count.total ≡ Some k → k ≡ new) → count.eods ≤ new → eof_refusal count new ≡ None
 eof_fits count new some most is le =
     ap (λ (c : Bool). if c || nat_lt 1024 new then Some (BadTotal new) else totals_refusal count.total count.eods new) (ne_eqb new 0 (λ e. omega arith))
     ∙ ap (λ (c : Bool). if c then Some (BadTotal new) else totals_refusal count.total count.eods new) (le-ltb 1024 new most)
@@ -119,7 +119,7 @@ broken-eof new transfer count error refused c n unbroken =
     none-some error
     (sym (eof_fits count new (omega (arith, unbroken.in_bounds.0)) (omega (arith, unbroken.in_bounds.1)) (λ k e. known_is transfer count n c unbroken.passes.0 k e ∙ sym is_n) (omega (arith, c.eods, unbroken.at_most))) ∙ refused)
 
-else_none : (b : Bool) (error : EodError) (other : Option EodError) → (if b then Some error else other) ≡ None → other ≡ None
+pub else_none : (b : Bool) (error : EodError) (other : Option EodError) → (if b then Some error else other) ≡ None → other ≡ None
 else_none true error other e = absurd (none-some error (sym e))
 else_none false error other e = e
 

@@ -3,12 +3,11 @@ use Rattle.std.proofs.Common.{◌≡◌, ℕ, ◌/◌, ◌%◌, ◌<◌, ◌≤�
 use Rattle.std.specs.Prelude.{codes, decimal}
 use Rattle.std.specs.List.{list_all}
 use Rattle.std.proofs.lemmas.Fmt.{length-decimal-le}
-use Rattle.std.proofs.lemmas.Bool.{not-true}
-use Rattle.std.proofs.lemmas.List.Elements.{All-append, All-cons, All-weaker}
-use Rattle.std.proofs.lemmas.List.Sums.{AllPass-from_list_all}
+use Rattle.std.proofs.lemmas.List.Elements.{All-append, All-cons}
 use Rattle.gft_base.specs.Number.{IsNumber}
 use Rattle.gft_base.specs.Parts.{Lacks}
-use Rattle.gft_base.proofs.NumberLemmas.{IsNumber-decimal, IsNumber-one, digits_apart}
+use Rattle.gft_base.proofs.NumberLemmas.{IsNumber-decimal, IsNumber-one}
+use Rattle.gft_text.proofs.LackLemmas.{literal_lacks, decimal_lacks}
 use Rattle.gft_reply.specs.declared.reply.Reply.{Reply}
 use Rattle.gft_reply.specs.Written.{Fits, IsWritable, written_line}
 use Rattle.gft_reply.proofs.FitsLemmas.{writable}
@@ -46,24 +45,17 @@ IsPerfMarker-written perf fits = record {
 
 -- ---- what is written has a text
 
-pub literal-lacks : (text : List ℕ) → list_all (λ b. not (eqb b 10)) text ≡ true → Lacks 10 text
-literal-lacks text test =
-    All-weaker (λ b. not (eqb b 10) ≡ true) (λ b. eqb b 10 ≡ false) (λ b h. not-true _ h) text (AllPass-from_list_all (λ b. not (eqb b 10)) text test)
-
-pub decimal-lacks : (n : ℕ) → n < 2 ^ 64 → Lacks 10 (decimal n)
-decimal-lacks n fits = digits_apart 10 (decimal n) (lit< tt) (IsNumber-decimal n fits).digits
-
 pub decimal-short : (n : ℕ) → n < 2 ^ 64 → length (decimal n) ≤ 20
 decimal-short n fits = length-decimal-le 20 n (omega arith) (omega arith) fits
 
 -- a name and a value without an LF
-lacks-joined : (name value : List ℕ) → list_all (λ b. not (eqb b 10)) name ≡ true → Lacks 10 value → Lacks 10 (name ++ value)
-lacks-joined name value test lacks = All-append (λ b. eqb b 10 ≡ false) name value (literal-lacks name test) lacks
+named-lacks : (name value : List ℕ) → list_all (λ b. not (eqb b 10)) name ≡ true → Lacks 10 value → Lacks 10 (name ++ value)
+named-lacks name value test lacks = All-append (λ b. eqb b 10 ≡ false) name value (literal_lacks 10 name test) lacks
 
 timestamp-lacks : (tenths : ℕ) → tenths < 2 ^ 64 → Lacks 10 (timestamp_text tenths)
 timestamp-lacks tenths fits =
     let P : ℕ → Type 0 = λ b. eqb b 10 ≡ false in
-    All-append P (decimal (tenths / 10)) (46 ∷ decimal (tenths % 10)) (decimal-lacks (tenths / 10) (omega arith)) (All-cons P 46 (decimal (tenths % 10)) refl (decimal-lacks (tenths % 10) (omega arith)))
+    All-append P (decimal (tenths / 10)) (46 ∷ decimal (tenths % 10)) (decimal_lacks 10 (tenths / 10) (lit< tt) (omega arith)) (All-cons P 46 (decimal (tenths % 10)) refl (decimal_lacks 10 (tenths % 10) (lit< tt) (omega arith)))
 
 timestamp-short : (tenths : ℕ) → tenths < 2 ^ 64 → length (timestamp_text tenths) ≤ 41
 timestamp-short tenths fits =
@@ -71,7 +63,7 @@ timestamp-short tenths fits =
 
 inner-written : (name value : List ℕ) → list_all (λ b. not (eqb b 10)) name ≡ true → length name ≤ 100 → Lacks 10 value → length value ≤ 100 → IsWritable (written_line false false 112 (name ++ value))
 inner-written name value test name_short lacks value_short =
-    writable false false 112 1 (name ++ value) refl (lacks-joined name value test lacks) (omega (arith, length-append name value))
+    writable false false 112 1 (name ++ value) refl (named-lacks name value test lacks) (omega (arith, length-append name value))
 
 -- the written marker has a text
 pub Fits-perf : (perf : Perf) → FitsPerf perf → Fits (perf_reply perf)
@@ -81,17 +73,17 @@ Fits-perf perf fits = record {
   some = omega arith;
   few = omega arith;
   lines = (
-    writable true false 112 4 (codes "Perf Marker") refl (literal-lacks (codes "Perf Marker") refl) (omega arith),
+    writable true false 112 4 (codes "Perf Marker") refl (literal_lacks 10 (codes "Perf Marker") refl) (omega arith),
     (
       inner-written (codes "Timestamp: ") (timestamp_text perf.tenths) refl (omega arith) (timestamp-lacks perf.tenths fits.tenths) (omega (arith, timestamp-short perf.tenths fits.tenths)),
       (
-        inner-written (codes "Stripe Index: ") (decimal perf.stripe) refl (omega arith) (decimal-lacks perf.stripe (omega (arith, fits.stripe))) (omega (arith, decimal-short perf.stripe (omega (arith, fits.stripe)))),
+        inner-written (codes "Stripe Index: ") (decimal perf.stripe) refl (omega arith) (decimal_lacks 10 perf.stripe (lit< tt) (omega (arith, fits.stripe))) (omega (arith, decimal-short perf.stripe (omega (arith, fits.stripe)))),
         (
-          inner-written (codes "Stripe Bytes Transferred: ") (decimal perf.bytes) refl (omega arith) (decimal-lacks perf.bytes fits.bytes) (omega (arith, decimal-short perf.bytes fits.bytes)),
+          inner-written (codes "Stripe Bytes Transferred: ") (decimal perf.bytes) refl (omega arith) (decimal_lacks 10 perf.bytes (lit< tt) fits.bytes) (omega (arith, decimal-short perf.bytes fits.bytes)),
           (
-            inner-written (codes "Total Stripe Count: ") (decimal perf.stripes) refl (omega arith) (decimal-lacks perf.stripes (omega (arith, fits.stripes))) (omega (arith, decimal-short perf.stripes (omega (arith, fits.stripes)))),
+            inner-written (codes "Total Stripe Count: ") (decimal perf.stripes) refl (omega arith) (decimal_lacks 10 perf.stripes (lit< tt) (omega (arith, fits.stripes))) (omega (arith, decimal-short perf.stripes (omega (arith, fits.stripes)))),
             (
-              writable false true 112 4 (codes "End") refl (literal-lacks (codes "End") refl) (omega arith),
+              writable false true 112 4 (codes "End") refl (literal_lacks 10 (codes "End") refl) (omega arith),
               tt,
             ),
           ),

@@ -15,7 +15,7 @@ use Rattle.gft_range.proofs.ListLemmas.{IsList-one}
 use Rattle.gft_reply.specs.declared.reply.Reply.{Reply}
 use Rattle.gft_reply.specs.Written.{Fits}
 use Rattle.gft_reply.proofs.FitsLemmas.{writable}
-use Rattle.gft_mark.proofs.PerfLemmas.{literal-lacks}
+use Rattle.gft_text.proofs.LackLemmas.{literal_lacks}
 use Rattle.gft_mark.specs.Markers.{IsRangeMarker}
 
 -- no reply is two restart markers
@@ -130,5 +130,5 @@ Fits-range list ranges is =
       most = omega arith;
       some = omega arith;
       few = omega arith;
-      lines = (writable true true 111 4 (name ++ list) refl (All-append (λ b. eqb b 10 ≡ false) name list (literal-lacks name refl) short.0) (omega (arith, short.1, length-append name list)), tt);
+      lines = (writable true true 111 4 (name ++ list) refl (All-append (λ b. eqb b 10 ≡ false) name list (literal_lacks 10 name refl) short.0) (omega (arith, short.1, length-append name list)), tt);
     }

@@ -1,10 +1,7 @@
 -- Lists, and texts cut at a separator.
-use Rattle.std.proofs.Common.{◌≡◌, ℕ, true, false, not, eqb, List, [], ◌∷◌, ◌++◌, map, refl, ap}
-use Rattle.std.specs.List.{AllZip, AllByRecursion, join_with_byte, list_all}
-use Rattle.std.proofs.lemmas.Bool.{not-true}
-use Rattle.std.proofs.lemmas.List.Elements.{All-append, All-cons}
+use Rattle.std.proofs.Common.{◌≡◌, ℕ, eqb, List, [], ◌∷◌, ◌++◌, map, refl, ap}
+use Rattle.std.specs.List.{AllZip, AllByRecursion, join_with_byte}
 use Rattle.std.proofs.lemmas.List.Splits.{slice_split_none}
-use Rattle.std.proofs.lemmas.List.Sums.{AllPass-from_list_all}
 use Rattle.gft_base.specs.Parts.{parts_at, Lacks}
 use Rattle.gft_base.proofs.PartsLemmas.{parts_join}
 
@@ -12,13 +9,6 @@ use Rattle.gft_base.proofs.PartsLemmas.{parts_join}
 pub more_fit : {X : Type 0} (P : X → Type 0) (xs : List X) (x : X) → AllByRecursion P xs → P x → AllByRecursion P (xs ++ x ∷ [])
 more_fit P [] x all here = (here, tt)
 more_fit P (y ∷ xs) x all here = (all.0, more_fit P xs x all.1 here)
-
--- what is written out is looked through
-pub literal_lacks : (c : ℕ) (bs : List ℕ) → list_all (λ b. not (eqb b c)) bs ≡ true → Lacks c bs
-literal_lacks c bs all = λ k d lt. not-true _ (AllPass-from_list_all (λ b. not (eqb b c)) bs all k d lt)
-
-pub lacks_joined : (c s : ℕ) (x y : List ℕ) → eqb s c ≡ false → Lacks c x → Lacks c y → Lacks c (x ++ s ∷ y)
-lacks_joined c s x y apart in_x in_y = All-append (λ b. eqb b c ≡ false) x (s ∷ y) in_x (All-cons (λ b. eqb b c ≡ false) s y apart in_y)
 
 -- the parts of a text of several texts are those texts
 pub parts_joined : {X : Type 0} (R : List ℕ → X → Type 0) (f : X → List ℕ) (c : ℕ) (x : X) (xs : List X) → AllByRecursion (λ y. Lacks c (f y) × R (f y) y) (x ∷ xs) → AllZip R (parts_at c (join_with_byte c (map f (x ∷ xs)))) (x ∷ xs)

@@ -7,12 +7,12 @@ use Rattle.std.proofs.lemmas.List.Splits.{slice_split_none}
 use Rattle.gft_base.specs.Parts.{parts_at, Lacks}
 use Rattle.gft_base.specs.Number.{IsNumber}
 use Rattle.gft_base.proofs.PartsLemmas.{part_alone, parts_join, position-None, position-none_from}
-use Rattle.gft_base.proofs.NumberLemmas.{IsNumber-decimal, digits_apart}
+use Rattle.gft_base.proofs.NumberLemmas.{IsNumber-decimal}
 use Rattle.gft_opts.specs.Word.{IsWord}
 use Rattle.gft_opts.specs.Part.{FitsEret, FitsEsto, IsEret, IsEsto, IsOffset, IsPath, eret_text, esto_text}
 use Rattle.gft_opts.specs.declared.part.Eret.{Eret}
 use Rattle.gft_opts.specs.declared.part.Esto.{Esto}
-use Rattle.gft_opts.proofs.ListLemmas.{literal_lacks}
+use Rattle.gft_text.proofs.LackLemmas.{literal_lacks, decimal_lacks}
 
 -- no place of a space is found
 pub no_space : (path : List ℕ) (found : Option ℕ) (none : Bool) → found ≡ position (λ b. eqb b 32) path → is_some found ≡ not none → none ≡ true → Lacks 32 path
@@ -99,9 +99,6 @@ esto_of text mode a offset path esto one two words =
     }
 
 -- what is written is read again
-digits_single : (n : ℕ) → n < 2 ^ 64 → Lacks 32 (decimal n)
-digits_single n fits = digits_apart 32 (decimal n) (lit< tt) (IsNumber-decimal n fits).digits
-
 pub eret_written : (eret : Eret) → FitsEret eret → IsEret (eret_text eret) eret
 eret_written eret fits =
     let offset_fits : eret.offset < 2 ^ 64 = omega (arith, fits.offset) in
@@ -110,8 +107,8 @@ eret_written eret fits =
     let offset_text : List ℕ = decimal eret.offset ++ 32 ∷ size_text in
     eret_of (eret_text eret) (codes "P") offset_text (decimal eret.offset) size_text (decimal eret.size) path_text eret
     (parts_join 32 (codes "P") offset_text (literal_lacks 32 (codes "P") refl))
-    (parts_join 32 (decimal eret.offset) size_text (digits_single eret.offset offset_fits))
-    (parts_join 32 (decimal eret.size) path_text (digits_single eret.size fits.size))
+    (parts_join 32 (decimal eret.offset) size_text (decimal_lacks 32 eret.offset (lit< tt) offset_fits))
+    (parts_join 32 (decimal eret.size) path_text (decimal_lacks 32 eret.size (lit< tt) fits.size))
     (record {
       mode_is = refl;
       offset_is = record { number = IsNumber-decimal eret.offset offset_fits; limited = fits.offset };
@@ -127,7 +124,7 @@ esto_written esto fits =
     let offset_text : List ℕ = decimal esto.offset ++ 32 ∷ path_text in
     esto_of (esto_text esto) (codes "A") offset_text (decimal esto.offset) path_text esto
     (parts_join 32 (codes "A") offset_text (literal_lacks 32 (codes "A") refl))
-    (parts_join 32 (decimal esto.offset) path_text (digits_single esto.offset offset_fits))
+    (parts_join 32 (decimal esto.offset) path_text (decimal_lacks 32 esto.offset (lit< tt) offset_fits))
     (record {
       mode_is = refl;
       offset_is = record { number = IsNumber-decimal esto.offset offset_fits; limited = fits.offset };

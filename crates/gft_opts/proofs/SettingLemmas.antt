@@ -22,7 +22,7 @@ use Rattle.gft_opts.specs.declared.setting.LayoutName.{LayoutName}
 use Rattle.gft_opts.specs.declared.setting.LayoutName.TheVariants.{Partitioned, Blocked}
 use Rattle.gft_opts.specs.declared.setting.Setting.{Setting}
 use Rattle.gft_opts.specs.declared.setting.Setting.TheVariants.{StripeLayout, BlockSize, Parallelism}
-use Rattle.gft_opts.proofs.ListLemmas.{literal_lacks, lacks_joined}
+use Rattle.gft_text.proofs.LackLemmas.{literal_lacks, lacks_joined}
 
 -- ---- what is no entry of a table
 

@@ -1,32 +1,25 @@
 -- Targets in text.
-use Rattle.std.proofs.Common.{◌≡◌, ℕ, ◌/◌, ◌%◌, ◌<◌, ◌≤◌, ◌^◌, List, [], ◌∷◌, ◌++◌, length, map, refl, sym, ap, ◌∙◌, arith, lit<}
+use Rattle.std.proofs.Common.{◌≡◌, ℕ, ◌/◌, ◌%◌, ◌<◌, ◌≤◌, List, [], ◌∷◌, ◌++◌, length, map, refl, sym, ap, ◌∙◌, arith, lit<}
 use Rattle.std.specs.Fmt.{decimal}
 use Rattle.std.specs.List.{AllZip, AllByRecursion, flat_map, join_with_byte}
 use Rattle.std.proofs.lemmas.List.{append-nil}
 use Rattle.gft_base.specs.Parts.{parts_at, Lacks}
 use Rattle.gft_base.proofs.PartsLemmas.{parts_some}
-use Rattle.gft_base.proofs.NumberLemmas.{IsNumber-decimal, digits_apart}
 use Rattle.gft_base.proofs.ZipLemmas.{AllZip-length, AllZip-one}
 use Rattle.gft_text.specs.HostPort.{IsByte, IsHostPort, FitsHostPort, host_port_text, numbers_of}
 use Rattle.gft_text.specs.declared.host_port.HostPort.{HostPort}
-use Rattle.gft_text.proofs.HostPortLemmas.{IsHostPort-text, IsHostPort-one}
+use Rattle.gft_text.proofs.HostPortLemmas.{IsHostPort-text, IsHostPort-one, two_more}
+use Rattle.gft_text.proofs.LackLemmas.{decimal_lacks, lacks_joined}
 use Rattle.gft_opts.specs.Targets.{FitsTargets, IsTargets, targets_text}
-use Rattle.gft_opts.proofs.ListLemmas.{lacks_joined, parts_joined}
+use Rattle.gft_opts.proofs.ListLemmas.{parts_joined}
 
 -- ---- what is written is read again
 
-digits_single : (n : ℕ) → n < 2 ^ 64 → Lacks 32 (decimal n)
-digits_single n fits = digits_apart 32 (decimal n) (lit< tt) (IsNumber-decimal n fits).digits
-
 numbers_single : (ns : List ℕ) → AllByRecursion (λ n. n < 256) ns → Lacks 32 (join_with_byte 44 (map decimal ns))
 numbers_single [] fit = λ k d lt. absurd (omega (arith, lt))
-numbers_single (n ∷ []) fit = digits_single n (omega (arith, fit.0))
+numbers_single (n ∷ []) fit = decimal_lacks 32 n (lit< tt) (omega (arith, fit.0))
 numbers_single (n ∷ m ∷ ns) fit =
-    lacks_joined 32 44 (decimal n) (join_with_byte 44 (map decimal (m ∷ ns))) refl (digits_single n (omega (arith, fit.0))) (numbers_single (m ∷ ns) fit.1)
-
-two_more : (host : List ℕ) (a b : ℕ) → AllByRecursion (λ n. n < 256) host → a < 256 → b < 256 → AllByRecursion (λ n. n < 256) (host ++ a ∷ b ∷ [])
-two_more [] a b all la lb = (la, (lb, tt))
-two_more (n ∷ host) a b all la lb = (all.0, two_more host a b all.1 la lb)
+    lacks_joined 32 44 (decimal n) (join_with_byte 44 (map decimal (m ∷ ns))) refl (decimal_lacks 32 n (lit< tt) (omega (arith, fit.0))) (numbers_single (m ∷ ns) fit.1)
 
 address_single : (at : HostPort) → FitsHostPort at → Lacks 32 (host_port_text at)
 address_single at fits = numbers_single (numbers_of at) (two_more at.host _ _ fits.bytes (omega (arith, fits.port)) (omega arith))

@@ -1,5 +1,5 @@
 -- Lists of ranges in text: their items, one value for each, and what is written.
-use Rattle.std.proofs.Common.{◌≡◌, ℕ, ◌+◌, ◌-◌, ◌<◌, ◌^◌, eqb, false, ◌≤◌, ◌⊎◌, ◌↔◌, List, [], ◌∷◌, ◌++◌, length, inl, inr, arith, refl, sym, ap, subst, append_assoc, Option, Some, None, IfSome, ◌∙◌, lit<}
+use Rattle.std.proofs.Common.{◌≡◌, ℕ, ◌+◌, ◌-◌, ◌<◌, ◌^◌, eqb, false, ◌≤◌, ◌⊎◌, ◌↔◌, List, [], ◌∷◌, ◌++◌, length, inl, inr, arith, refl, sym, subst, append_assoc, Option, Some, None, IfSome, ◌∙◌, lit<}
 use Rattle.std.specs.List.{AllZip, All, AllByRecursion, flat_map, sum_by}
 use Rattle.std.specs.Fmt.{decimal}
 use Rattle.std.proofs.lemmas.Fmt.{decimal_digit}
@@ -17,7 +17,7 @@ use Rattle.gft_range.specs.Range.{InRange, HasOffset}
 use Rattle.gft_range.specs.Normal.{IsNormal}
 use Rattle.gft_range.specs.ListText.{AreDashed, IsItem, IsList, FirstBadAt, FitRanges, items_of, range_text, list_text}
 use Rattle.gft_range.specs.Adding.{AddsItems}
-use Rattle.gft_range.proofs.NormalLemmas.{one_list}
+use Rattle.gft_range.proofs.NormalLemmas.{one_list, same_range}
 use Rattle.gft_range.proofs.OffsetLemmas.{HasOffset-append}
 use Rattle.gft_range.proofs.UnionLemmas.{normal_few}
 
@@ -119,12 +119,6 @@ adding_all text old now kept = record {
 
 -- ---- one value
 
-same_ends : (r s : Range) → r.start ≡ s.start → r.end ≡ s.end → r ≡ s
-same_ends r s start end =
-    let with_start : ℕ → Range = λ n. record { start = n; end = r.end } in
-    let with_end : ℕ → Range = λ n. record { start = s.start; end = n } in
-    ap with_start start ∙ ap with_end end
-
 one_dashed : (text ms ns : List ℕ) → AreDashed text ms → AreDashed text ns → ms ≡ ns
 one_dashed text ms ns a b = AllZip-one IsNumber IsNumber-one (parts_at 45 text) ms ns a b
 
@@ -134,7 +128,7 @@ IsItem-one text r s a b = elim a [
     | inl b_two ↦ let same = one_dashed text _ _ a_two.0 b_two.0 in
         let start : r.start ≡ s.start = cc in
         let end : r.end ≡ s.end = cc in
-        same_ends r s start end
+        same_range r s start end
     | inr b_one ↦ let same = one_dashed text _ _ a_two.0 b_one.0 in cc
   ]
   | inr a_one ↦ elim b [
@@ -142,7 +136,7 @@ IsItem-one text r s a b = elim a [
     | inr b_one ↦ let same = one_dashed text _ _ a_one.0 b_one.0 in
         let start : r.start ≡ s.start = a_one.1 ∙ sym b_one.1 in
         let end : r.end ≡ s.end = cc in
-        same_ends r s start end
+        same_range r s start end
   ]
 ]
 

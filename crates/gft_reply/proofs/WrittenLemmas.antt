@@ -1,11 +1,9 @@
 -- A written reply is read again.
-use Rattle.std.proofs.Common.{◌≡◌, ℕ, ◌+◌, ◌-◌, ◌/◌, ◌%◌, ◌*◌, ◌<◌, ◌≤◌, Bool, true, false, List, [], ◌∷◌, ◌++◌, length, length-append, Some, None, append_assoc, refl, ap, ◌∙◌, arith}
+use Rattle.std.proofs.Common.{◌≡◌, ℕ, ◌+◌, ◌/◌, ◌%◌, ◌*◌, ◌<◌, ◌≤◌, Bool, true, false, List, [], ◌∷◌, ◌++◌, length, length-append, Some, None, append_assoc, refl, ap, ◌∙◌, arith}
 use Rattle.std.specs.List.{AllByRecursion}
-use Rattle.std.specs.Str.Lines.{strip_carriage_return}
 use Rattle.std.proofs.lemmas.Bool.{le-ltb}
-use Rattle.std.proofs.Math.Seq.{get_or-append_seam, take-append_seam}
 use Rattle.gft_text.specs.LineStream.{Told, Line, told}
-use Rattle.gft_text.proofs.LineLemmas.{told-line}
+use Rattle.gft_text.proofs.LineLemmas.{told-line, without_return}
 use Rattle.gft_reply.specs.declared.reply.Reply.{Reply}
 use Rattle.gft_reply.specs.declared.reply.TheConstants.{LINE_COUNT_LIMIT}
 use Rattle.gft_reply.specs.Line.{digit_of, head_of, mark_of}
@@ -13,11 +11,6 @@ use Rattle.gft_reply.specs.ReplyStream.{Replied, heard, nothing, replies}
 use Rattle.gft_reply.specs.Grammar.{IsHead, IsInner}
 use Rattle.gft_reply.specs.Written.{Fits, IsWritable, code_text, front_of, reply_text, spelled, written_line, written_lines}
 use Rattle.gft_reply.proofs.GrammarLemmas.{first-closes, first-goes, line-closes, line-goes, reply_of}
-
-without_return : (bytes : List ℕ) → strip_carriage_return (bytes ++ 13 ∷ []) ≡ bytes
-without_return bytes =
-    let place : length (bytes ++ 13 ∷ []) - 1 ≡ length bytes = omega (arith, length-append bytes (13 ∷ [])) in
-    rw (place, get_or-append_seam bytes 13 [] 0) (take-append_seam bytes (13 ∷ []))
 
 digit : (first last d : ℕ) → first ≤ d → d ≤ last → digit_of first last (48 + d) ≡ Some d
 digit first last d low high =

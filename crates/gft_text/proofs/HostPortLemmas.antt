@@ -13,7 +13,7 @@ pub parts_count : (parts done left : List (List ℕ)) (vs ns : List ℕ) → par
 parts_count parts done left vs ns same all_done all =
     omega (arith, AllZip-length IsByte done vs all_done, AllZip-length IsByte parts ns all, ap length same, length-append done left)
 
-two_more : (host : List ℕ) (a b : ℕ) → AllByRecursion (λ n. n < 256) host → a < 256 → b < 256 → AllByRecursion (λ n. n < 256) (host ++ a ∷ b ∷ [])
+pub two_more : (host : List ℕ) (a b : ℕ) → AllByRecursion (λ n. n < 256) host → a < 256 → b < 256 → AllByRecursion (λ n. n < 256) (host ++ a ∷ b ∷ [])
 two_more [] a b all la lb = (la, (lb, tt))
 two_more (n ∷ host) a b all la lb = (all.0, two_more host a b all.1 la lb)
 

@@ -1,4 +1,5 @@
 pub mod HostPortLemmas
+pub mod LackLemmas
 pub mod LineLemmas
 pub mod NameLemmas
 pub mod TableLemmas

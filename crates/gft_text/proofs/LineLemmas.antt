@@ -12,7 +12,7 @@ use Rattle.gft_text.specs.declared.lines.TheConstants.{LINE_LIMIT}
 use Rattle.std.proofs.lemmas.List.{take_all, take_min, take_more, take-append-drop, length-take, length-take-le}
 use Rattle.std.proofs.lemmas.List.Elements.{All-append}
 use Rattle.std.proofs.lemmas.List.Quantifiers.{position-Some}
-use Rattle.std.proofs.Math.Seq.{take-append-add, get_or-append_seam, take-length}
+use Rattle.std.proofs.Math.Seq.{take-append-add, take-append_seam, get_or-append_seam, take-length}
 use Rattle.gft_base.proofs.PartsLemmas.{parts_join, parts_front, parts_some, position-None, front_apart}
 
 parts_line : (line : List ℕ) (parts : List (List ℕ)) → 0 < length parts → length line < LINE_LIMIT → told_of_parts (line ∷ parts) ≡ Line (strip_carriage_return line) ∷ told_of_parts parts
@@ -178,3 +178,9 @@ front-unended piece room n is none = record {
   ending = λ e. cc;
   unended = λ e. rw is (take_min room piece);
 }
+
+-- what ends in a CR is a line without it
+pub without_return : (bytes : List ℕ) → strip_carriage_return (bytes ++ 13 ∷ []) ≡ bytes
+without_return bytes =
+    let place : length (bytes ++ 13 ∷ []) - 1 ≡ length bytes = omega (arith, length-append bytes (13 ∷ [])) in
+    rw (place, get_or-append_seam bytes 13 [] 0) (take-append_seam bytes (13 ∷ []))

@@ -1,15 +1,15 @@
 -- The count of EODs beside the arrivals.
-use Rattle.std.proofs.Common.{◌≡◌, ℕ, suc, ◌+◌, ◌<◌, ◌≤◌, ◌⊎◌, Bool, true, false, List, [], ◌∷◌, ◌++◌, append-nil, append_assoc, ◌||◌, Option, Some, None, refl, sym, ap, ◌∙◌, subst, arith, inl, inr}
-use Rattle.std.proofs.lemmas.Bool.{eq-eqb, ne_eqb, le-ltb, leb-true}
+use Rattle.std.proofs.Common.{◌≡◌, ℕ, suc, ◌+◌, ◌≤◌, ◌⊎◌, List, [], ◌∷◌, ◌++◌, append-nil, append_assoc, ◌||◌, Option, Some, None, refl, sym, ap, ◌∙◌, subst, arith, inl, inr}
 use Rattle.std.proofs.lemmas.Bool.Decides.{eqb_tells}
-use Rattle.std.specs.Prelude.{nat_eq, nat_lt, nat_le, if◌then◌else◌}
+use Rattle.std.specs.Prelude.{nat_eq, nat_lt}
 use Rattle.gft_base.specs.Arrival.{Arrival, At, Eof, Eod, Bad, totals, eods}
 use Rattle.gridftpd.specs.Totals.{first_of, AllAre}
 use Rattle.gridftpd.proofs.DoneLemmas.{SaysDone}
 use Rattle.gft_eod.specs.declared.error.EodError.{EodError}
 use Rattle.gft_eod.specs.declared.error.EodError.TheVariants.{BadTotal, TwoTotals}
 use Rattle.gft_eod.specs.Count.{Count}
-use Rattle.gft_eod.specs.Refusal.{eof_refusal, eod_refusal, totals_refusal}
+use Rattle.gft_core.proofs.ProgressLemmas.{else_none, eod_fits, eof_fits}
+use Rattle.gft_eod.specs.Refusal.{eof_refusal, totals_refusal}
 use Rattle.gridftpd.specs.Cause.{count_of, refusal_at, IsMiscounted}
 use Rattle.gridftpd.specs.Follows.{Counts}
 use Rattle.gridftpd.proofs.ArrivalLemmas.{totals-append, eods-append}
@@ -55,10 +55,6 @@ Counts-eod list old new counts total more =
       agreed = λ n first. subst (AllAre n) (sym same) (counts.agreed n (ap first_of (sym same) ∙ first));
     }
 
-if_none : (b : Bool) (e : EodError) (rest : Option EodError) → (if b then Some e else rest) ≡ None → rest ≡ None
-if_none true e rest is = absurd (cc)
-if_none false e rest is = is
-
 kept_total : (kept : Option ℕ) (taken n : ℕ) → totals_refusal kept taken n ≡ None → (kept ≡ None) ⊎ (kept ≡ Some n)
 kept_total None taken n is = inl refl
 kept_total (Some kept) taken n is = elim (eqb_tells kept n) [
@@ -70,7 +66,7 @@ kept_total (Some kept) taken n is = elim (eqb_tells kept n) [
 pub Counts-eof : (list : List Arrival) (n : ℕ) (old new : Count) → Counts list old → eof_refusal old n ≡ None → new.total ≡ Some n → new.eods ≡ old.eods → Counts (list ++ Eof n ∷ []) new
 Counts-eof list n old new counts taken total same_eods =
     let all : totals (list ++ Eof n ∷ []) ≡ totals list ++ n ∷ [] = totals-append list (Eof n ∷ []) in
-    let kept = kept_total old.total old.eods n (if_none (nat_eq n 0 || nat_lt 1024 n) (BadTotal n) (totals_refusal old.total old.eods n) taken) in
+    let kept = kept_total old.total old.eods n (else_none (nat_eq n 0 || nat_lt 1024 n) (BadTotal n) (totals_refusal old.total old.eods n) taken) in
     let first : first_of (totals list ++ n ∷ []) ≡ Some n = first_then (totals list) n (elim kept [ inl none ↦ inl (sym counts.total ∙ none) | inr some ↦ inr (sym counts.total ∙ some) ]) in
     record {
       total = total ∙ sym first ∙ ap first_of (sym all);
@@ -92,17 +88,6 @@ Counts-eof list n old new counts taken total same_eods =
 
 -- ---- arrivals that are done are counted without a refusal
 
-eof_fine : (kept : Option ℕ) (taken n : ℕ) → 1 ≤ n → n ≤ 1024 → ((m : ℕ) → kept ≡ Some m → m ≡ n) → taken ≤ n → (if (nat_eq n 0 || nat_lt 1024 n) then Some (BadTotal n) else totals_refusal kept taken n) ≡ None
-eof_fine None taken n low high same few = rw (ne_eqb n 0 (omega arith), le-ltb 1024 n high, le-ltb n taken few) refl
-eof_fine (Some m) taken n low high same few = rw (ne_eqb n 0 (omega arith), le-ltb 1024 n high, eq-eqb m n (same m refl), le-ltb n taken few) refl
-
-lt-leb : (a b : ℕ) → a < b → nat_le b a ≡ false
-lt-leb a b lt = elim (nat_le b a) as (λ v. nat_le b a ≡ v → nat_le b a ≡ false) [ true ↦ λ is. absurd (omega (arith, leb-true b a is)) | false ↦ λ is. is ] refl
-
-eod_fine : (kept : Option ℕ) (taken : ℕ) → ((m : ℕ) → kept ≡ Some m → taken < m) → taken < 1024 → eod_refusal (let c : Count = record { total = kept; eods = taken } in c) ≡ None
-eod_fine None taken below few = rw (lt-leb taken 1024 few) refl
-eod_fine (Some m) taken below few = rw (lt-leb taken m (below m refl)) refl
-
 abbrev nothing : Option EodError
 nothing = None
 
@@ -113,13 +98,13 @@ refused_fine number end earlier (Eof total) later error low high all met refused
     let split = subst (AllAre number) (totals-append earlier (Eof total ∷ later)) all in
     let front = AllAre-front number (totals earlier) (total ∷ totals later) split in
     let here : total ≡ number = (AllAre-back number (totals earlier) (total ∷ totals later) split).0 in
-    let fine = eof_fine (first_of (totals earlier)) (eods earlier) total (omega arith) (omega arith) (λ m first. first_of-all number m (totals earlier) front first ∙ sym here) (omega (arith, eods-append earlier (Eof total ∷ later))) in
+    let fine = eof_fits (count_of earlier) total (omega arith) (omega arith) (λ m first. first_of-all number m (totals earlier) front first ∙ sym here) (omega (arith, eods-append earlier (Eof total ∷ later))) in
     let no : nothing ≡ Some error = sym fine ∙ refused in
     cc
 refused_fine number end earlier Eod later error low high all met refused =
     let front = AllAre-front number (totals earlier) (totals later) (subst (AllAre number) (totals-append earlier (Eod ∷ later)) all) in
     let counted : eods earlier + suc (eods later) ≡ number = sym (eods-append earlier (Eod ∷ later)) ∙ met in
-    let fine = eod_fine (first_of (totals earlier)) (eods earlier) (λ m first. omega (arith, first_of-all number m (totals earlier) front first)) (omega arith) in
+    let fine = eod_fits (first_of (totals earlier)) (eods earlier) number high (λ m first. first_of-all number m (totals earlier) front first) (omega arith) in
     let no : nothing ≡ Some error = sym fine ∙ refused in
     cc
 
