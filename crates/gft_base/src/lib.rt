@@ -1,11 +1,10 @@
 //! What several crates share: errors of the outside and of memory, counts of faults, the limit of
-//! offsets, the definition of arrivals, and what all grammars of text are made of: numbers, and the
-//! parts of a text between separators.
+//! offsets, and what all grammars of text are made of: numbers, and the parts of a text between
+//! separators.
 #![tactic(auto)]
 
 mod errors;
 mod faults;
-mod limit;
 mod number;
 mod parts;
 #[cfg(test)]
@@ -13,6 +12,11 @@ mod tests;
 
 pub use errors::{Failed, OutOfMemory};
 pub use faults::Faults;
-pub use limit::LIMIT;
 pub use number::read_decimal;
 pub use parts::{count_parts, find_byte, split_first, split_word, strip_front};
+
+/// The greatest end of a range of offsets, in bytes: 2^48 - 1.
+pub const LIMIT: u64 = 0xffff_ffff_ffff;
+
+// The definitions of all crates cite the name: its number is pinned here.
+const _: () = prove!(LIMIT == 281_474_976_710_655);

@@ -5,13 +5,12 @@ use Rattle.std.specs.List.{list_all}
 use Rattle.std.proofs.lemmas.Bool.Decides.{nat_tests}
 use Rattle.std.proofs.lemmas.List.Elements.{All-cons}
 use Rattle.std.proofs.lemmas.List.Sums.{AllPass-from_list_all}
-use Rattle.gft_base.specs.Parts.{Lacks}
-use Rattle.gft_range.proofs.ListLemmas.{IsList-few}
-use Rattle.gft_opts.specs.Part.{FitsEret, FitsEsto, IsEret, IsEsto, eret_text, esto_text}
-use Rattle.gft_opts.specs.declared.part.Eret.{Eret as EretValue}
-use Rattle.gft_opts.specs.declared.part.Esto.{Esto as EstoValue}
-use Rattle.gft_opts.proofs.RetrLemmas.{fits as IsRetr-fits}
-use Rattle.gft_opts.proofs.TargetsLemmas.{fits as IsTargets-fits}
+use Rattle.gft_base.specs.Words.{Lacks}
+use Rattle.gft_range.proofs.Lemmas.{IsList-few}
+use Rattle.gft_opts.specs.Words.{FitsEret, FitsEsto, IsEret, IsEsto, eret_text, esto_text}
+use Rattle.gft_opts.specs.declared.Eret.{Eret as EretValue}
+use Rattle.gft_opts.specs.declared.Esto.{Esto as EstoValue}
+use Rattle.gft_opts.proofs.Lemmas.{IsRetr-fits, IsTargets-fits}
 use Rattle.gft_command.specs.Commands.{Says, parameter_in}
 use Rattle.gft_command.specs.Parameters.{AreWords, FitsBytes, FitsWords, IsCapital, IsLetter, IsWritable}
 use Rattle.gft_command.specs.Telnet.{doubled}

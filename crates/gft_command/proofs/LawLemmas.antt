@@ -1,21 +1,18 @@
 -- No line is two commands, and none is a command and refused.
 use Rattle.std.proofs.Common.{◌≡◌, ◌≢◌, ℕ, ◌/◌, ◌%◌, true, List, [], ◌∷◌, length-append, codes, inl, inr, refl, ap, sym, ◌∙◌, arith}
 use Rattle.std.specs.List.{AllZip}
-use Rattle.gft_base.specs.Parts.{parts_at}
-use Rattle.gft_base.proofs.NumberLemmas.{IsNumber-one}
-use Rattle.gft_base.proofs.ZipLemmas.{AllZip-length}
-use Rattle.gft_range.specs.declared.range.Range.{Range}
-use Rattle.gft_range.specs.ListText.{IsItem, IsList}
-use Rattle.gft_range.proofs.ListLemmas.{IsList-one}
-use Rattle.gft_text.specs.HostPort.{IsByte, IsHostPort, numbers_of}
-use Rattle.gft_text.specs.declared.host_port.HostPort.{HostPort}
-use Rattle.gft_text.proofs.HostPortLemmas.{IsHostPort-one}
-use Rattle.gft_opts.specs.Targets.{IsTargets}
-use Rattle.gft_opts.specs.Part.{IsEret, IsEsto}
-use Rattle.gft_opts.specs.declared.part.Eret.{Eret as EretValue}
-use Rattle.gft_opts.specs.declared.part.Esto.{Esto as EstoValue}
-use Rattle.gft_opts.proofs.RetrLemmas.{one as IsRetr-one}
-use Rattle.gft_opts.proofs.TargetsLemmas.{one as IsTargets-one}
+use Rattle.gft_base.specs.Words.{parts_at}
+use Rattle.gft_base.proofs.Lemmas.{IsNumber-one, AllZip-length}
+use Rattle.gft_range.specs.declared.Range.{Range}
+use Rattle.gft_range.specs.Words.{IsItem, IsList}
+use Rattle.gft_range.proofs.Lemmas.{IsList-one}
+use Rattle.gft_text.specs.Words.{IsByte, IsHostPort, numbers_of}
+use Rattle.gft_text.specs.declared.HostPort.{HostPort}
+use Rattle.gft_text.proofs.Lemmas.{IsHostPort-one}
+use Rattle.gft_opts.specs.Words.{IsTargets, IsEret, IsEsto}
+use Rattle.gft_opts.specs.declared.Eret.{Eret as EretValue}
+use Rattle.gft_opts.specs.declared.Esto.{Esto as EstoValue}
+use Rattle.gft_opts.proofs.Lemmas.{IsRetr-one, IsTargets-one}
 use Rattle.gft_command.specs.Commands.{HasKnownVerb, IsSame, LacksParameter, RefusesText, Says, bare_verbs, known_verbs, parameter_in, parameter_verbs, verb_of}
 use Rattle.gft_command.specs.Parameters.{IsLetter}
 use Rattle.gft_command.proofs.VerbLemmas.{apart, behind, is_one, none_of, some_of}

@@ -1,7 +1,7 @@
-pub mod FitLemmas
-pub mod LawLemmas
-pub mod PartFits
-pub mod PrintedLemmas
-pub mod TelnetLemmas
-pub mod VerbLemmas
-pub mod WrittenLemmas
+mod FitLemmas
+mod LawLemmas
+mod PartFits
+mod PrintedLemmas
+mod TelnetLemmas
+mod VerbLemmas
+mod WrittenLemmas

@@ -2,11 +2,11 @@
 use Rattle.std.proofs.Common.{◌≡◌, ℕ, ◌+◌, ◌<◌, ◌^◌, eqb, false, true, List, [], ◌∷◌, ◌++◌, length, length-append, append_assoc, suc, refl, ap, ◌∙◌, subst, arith}
 use Rattle.std.specs.Fmt.{decimal}
 use Rattle.std.proofs.lemmas.List.Elements.{All-append, All-cons, All-nil}
-use Rattle.gft_base.specs.Parts.{Lacks}
-use Rattle.gft_base.proofs.NumberLemmas.{IsNumber-decimal}
-use Rattle.gft_opts.specs.Part.{eret_text, esto_text}
-use Rattle.gft_opts.specs.declared.part.Eret.{Eret}
-use Rattle.gft_opts.specs.declared.part.Esto.{Esto}
+use Rattle.gft_base.specs.Words.{Lacks}
+use Rattle.gft_base.proofs.Lemmas.{IsNumber-decimal}
+use Rattle.gft_opts.specs.Words.{eret_text, esto_text}
+use Rattle.gft_opts.specs.declared.Eret.{Eret}
+use Rattle.gft_opts.specs.declared.Esto.{Esto}
 use Rattle.gft_command.specs.Parameters.{FitsBehind, FitsBytes}
 use Rattle.gft_command.specs.Telnet.{doubled}
 use Rattle.gft_command.proofs.PrintedLemmas.{IsPrinted, is_print, number_brief, printed_apart}

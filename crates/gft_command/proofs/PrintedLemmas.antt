@@ -4,25 +4,21 @@ use Rattle.std.specs.List.{All, AllPass, AllZip, list_all, join_with_byte, befor
 use Rattle.std.proofs.lemmas.Bool.{and_from, lt-ltb, ne_eqb}
 use Rattle.std.proofs.lemmas.List.Elements.{All-append, All-cons, All-nil}
 use Rattle.std.proofs.lemmas.List.Splits.{join_with_byte-slice_split}
-use Rattle.gft_base.specs.Number.{AreDigits, IsNumber}
-use Rattle.gft_base.specs.Parts.{parts_at}
+use Rattle.gft_base.specs.Words.{AreDigits, IsNumber, parts_at}
 use Rattle.std.proofs.lemmas.List.{take_all}
-use Rattle.gft_base.proofs.NumberLemmas.{IsNumber-decimal, digits_apart}
-use Rattle.gft_base.proofs.PartsLemmas.{place_none, position-none_from}
-use Rattle.gft_base.proofs.ZipLemmas.{AllZip-length}
-use Rattle.gft_range.specs.declared.range.Range.{Range}
-use Rattle.gft_range.specs.ListText.{AreDashed, IsItem, IsList, items_of}
-use Rattle.gft_text.specs.HostPort.{IsByte, IsHostPort}
-use Rattle.gft_text.specs.declared.host_port.HostPort.{HostPort}
+use Rattle.gft_base.proofs.Lemmas.{IsNumber-decimal, digits_apart, place_none, position-none_from, AllZip-length}
+use Rattle.gft_range.specs.declared.Range.{Range}
+use Rattle.gft_range.specs.Words.{AreDashed, IsItem, IsList, items_of}
+use Rattle.gft_text.specs.Words.{IsByte, IsHostPort}
+use Rattle.gft_text.specs.declared.HostPort.{HostPort}
 use Rattle.std.specs.Fmt.{decimal}
 use Rattle.std.proofs.lemmas.List.Sums.{AllPass-from_list_all}
-use Rattle.gft_base.specs.declared.limit.TheConstants.{LIMIT}
+use Rattle.gft_base.specs.declared.TheConstants.{LIMIT}
 use Rattle.gft_layout.specs.declared.Layout.{Layout}
 use Rattle.gft_layout.specs.declared.Layout.TheVariants as layouts
-use Rattle.gft_opts.specs.Retr.{FitsLayout, FitsParallel, FitsRetr, layout_settings, parallel_settings, retr_text, settings_text}
-use Rattle.gft_opts.specs.Targets.{IsTargets}
-use Rattle.gft_opts.specs.declared.retr.RetrOptions.{RetrOptions}
-use Rattle.gft_opts.specs.declared.setting.TheConstants.{MOST_PARALLEL}
+use Rattle.gft_opts.specs.Words.{FitsLayout, FitsParallel, FitsRetr, layout_settings, parallel_settings, retr_text, settings_text, IsTargets}
+use Rattle.gft_opts.specs.declared.RetrOptions.{RetrOptions}
+use Rattle.gft_opts.specs.declared.TheConstants.{MAX_PARALLEL}
 use Rattle.gft_command.specs.Parameters.{IsShort, options_text}
 use Rattle.gft_command.proofs.TelnetLemmas.{doubled-plain}
 
@@ -123,7 +119,7 @@ known_brief text m seen few = record { printed = AllPass-from_list_all is_print 
 decimal_brief : (n : ℕ) → n < 2 ^ 64 → IsBrief (decimal n) 20
 decimal_brief n fits = number_brief (decimal n) n (IsNumber-decimal n fits)
 
-start_brief : (start : ℕ) → start ≤ MOST_PARALLEL → IsBrief (codes "Parallelism=" ++ (decimal start ++ 44 ∷ (decimal start ++ 44 ∷ (decimal start ++ 59 ∷ [])))) 90
+start_brief : (start : ℕ) → start ≤ MAX_PARALLEL → IsBrief (codes "Parallelism=" ++ (decimal start ++ 44 ∷ (decimal start ++ 44 ∷ (decimal start ++ 59 ∷ [])))) 90
 start_brief start most =
     let number = decimal_brief start (omega (arith, most)) in
     let comma = known_brief (44 ∷ []) 1 refl (lit≤ tt) in

@@ -3,8 +3,8 @@ use Rattle.std.proofs.Common.{◌≡◌, ℕ, ◌+◌, Option, Some, None, Bool,
 use Rattle.std.specs.List.{All, count_by, position}
 use Rattle.std.specs.Option.{is_some}
 use Rattle.std.proofs.lemmas.List.Sums.{sum_by-cons}
-use Rattle.gft_base.proofs.PartsLemmas.{position-None, position-none_from}
-use Rattle.gft_base.specs.Parts.{Lacks}
+use Rattle.gft_base.proofs.Lemmas.{position-None, position-none_from}
+use Rattle.gft_base.specs.Words.{Lacks}
 use Rattle.gft_command.specs.Telnet.{undoubled, doubled}
 
 -- no byte of it is 255

@@ -2,19 +2,16 @@
 use Rattle.std.proofs.Common.{◌≡◌, ℕ, ◌+◌, ◌-◌, ◌<◌, ◌≤◌, Bool, true, false, not, cond, eqb, List, [], ◌∷◌, ◌++◌, length, get_or, codes, inl, inr, zero, suc, refl, ap, sym, ◌∙◌, arith}
 use Rattle.std.specs.List.{Contains, list_all}
 use Rattle.std.proofs.lemmas.Bool.{and_parts, eqb-true, eqb-false, not-true}
-use Rattle.gft_base.specs.Number.{IsNumber}
-use Rattle.gft_range.specs.ListText.{IsList}
-use Rattle.gft_range.specs.Set.{KeptRanges}
-use Rattle.gft_text.specs.HostPort.{IsHostPort}
-use Rattle.gft_text.specs.Table.{HasText, IsAbsent, folded, same_bytes}
-use Rattle.gft_text.specs.declared.host_port.HostPort.{HostPort}
-use Rattle.gft_text.specs.declared.table.Entry.{Entry}
-use Rattle.gft_text.proofs.TableLemmas.{texts_apart}
-use Rattle.gft_opts.specs.Part.{IsEret, IsEsto}
-use Rattle.gft_opts.specs.Targets.{IsTargets}
-use Rattle.gft_opts.specs.declared.part.Eret.{Eret as EretValue}
-use Rattle.gft_opts.specs.declared.part.Esto.{Esto as EstoValue}
-use Rattle.gft_opts.specs.declared.retr.RetrOptions.{RetrOptions}
+use Rattle.gft_base.specs.Words.{IsNumber}
+use Rattle.gft_range.specs.Words.{IsList, KeptRanges}
+use Rattle.gft_text.specs.Words.{IsHostPort, HasText, IsAbsent, folded, same_bytes}
+use Rattle.gft_text.specs.declared.HostPort.{HostPort}
+use Rattle.gft_text.specs.declared.Entry.{Entry}
+use Rattle.gft_text.proofs.Lemmas.{texts_apart}
+use Rattle.gft_opts.specs.Words.{IsEret, IsEsto, IsTargets}
+use Rattle.gft_opts.specs.declared.Eret.{Eret as EretValue}
+use Rattle.gft_opts.specs.declared.Esto.{Esto as EstoValue}
+use Rattle.gft_opts.specs.declared.RetrOptions.{RetrOptions}
 use Rattle.gft_command.specs.Commands.{HasKnownVerb, HasSome, HasVerb, RefusesText, Says, are_numbered, bare_verbs, known_verbs, parameter_in, parameter_verbs, verb_in, verb_of}
 use Rattle.gft_command.specs.Parameters.{AreSpaces, IsLeadingNumber, IsLetter, IsOptions, Refuses}
 use Rattle.gft_command.specs.declared.command.Command.{Command}

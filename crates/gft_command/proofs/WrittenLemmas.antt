@@ -3,10 +3,10 @@ use Rattle.std.proofs.Common.{◌≡◌, ℕ, ◌<◌, ◌≤◌, Bool, true, fa
 use Rattle.std.specs.List.{list_all}
 use Rattle.std.proofs.lemmas.List.Elements.{All-append, All-cons, All-nil}
 use Rattle.std.proofs.lemmas.List.Sums.{AllPass-from_list_all}
-use Rattle.gft_base.specs.Parts.{Lacks}
-use Rattle.gft_text.specs.LineStream.{Line, told}
-use Rattle.gft_text.specs.declared.lines.TheConstants.{LINE_LIMIT}
-use Rattle.gft_text.proofs.LineLemmas.{told-line, without_return}
+use Rattle.gft_base.specs.Words.{Lacks}
+use Rattle.gft_text.specs.Words.{Line, told}
+use Rattle.gft_text.specs.declared.TheConstants.{LINE_LIMIT}
+use Rattle.gft_text.proofs.Lemmas.{told-line, without_return}
 use Rattle.gft_command.specs.Commands.{HasValue, HasVerb, parameter_in, verb_of}
 use Rattle.gft_command.specs.Parameters.{FitsBytes, IsShort, IsWritable}
 use Rattle.gft_command.specs.Telnet.{doubled, past_signals, text_of, undoubled}

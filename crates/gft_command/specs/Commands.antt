@@ -1,13 +1,11 @@
 -- Which lines are which command (RFC 959, sections 4.1 and 5.3; RFC 3659, section 4; GFD.20).
 use Rattle.std.specs.Prelude.{◌≡◌, ℕ, ◌+◌, ◌++◌, ◌==◌, ◌&&◌, ◌⊎◌, Bool, true, false, List, [], ◌∷◌, codes}
 use Rattle.std.specs.List.{before_first, after_first}
-use Rattle.gft_base.specs.Number.{IsNumber}
-use Rattle.gft_text.specs.HostPort.{IsHostPort}
-use Rattle.gft_text.specs.Table.{folded, same_bytes}
-use Rattle.gft_text.specs.declared.table.Entry.{Entry}
-use Rattle.gft_range.specs.ListText.{IsList}
-use Rattle.gft_opts.specs.Part.{IsEret, IsEsto}
-use Rattle.gft_opts.specs.Targets.{IsTargets}
+use Rattle.gft_base.specs.Words.{IsNumber}
+use Rattle.gft_text.specs.Words.{IsHostPort, folded, same_bytes}
+use Rattle.gft_text.specs.declared.Entry.{Entry}
+use Rattle.gft_range.specs.Words.{IsList}
+use Rattle.gft_opts.specs.Words.{IsEret, IsEsto, IsTargets}
 use Rattle.gft_command.specs.Parameters.{AreSpaces, AreWords, IsLetter, IsLeadingNumber, IsOptions}
 use Rattle.gft_command.specs.Telnet.{text_of}
 use Rattle.gft_command.specs.declared.command.Command.{Command}

@@ -2,12 +2,10 @@
 use Rattle.std.specs.Prelude.{◌≡◌, ℕ, ◌+◌, ◌<◌, ◌≤◌, ◌==◌, ◌++◌, List, [], ◌∷◌, length, codes, IsTrue}
 use Rattle.std.specs.Char.{to_ascii_uppercase, is_ascii_alphabetic}
 use Rattle.std.specs.List.{All, before_first, after_first}
-use Rattle.gft_base.specs.Number.{IsNumber}
-use Rattle.gft_base.specs.Parts.{Lacks}
-use Rattle.gft_text.specs.declared.lines.TheConstants.{LINE_LIMIT}
-use Rattle.gft_opts.specs.Retr.{IsRetr, retr_text}
-use Rattle.gft_opts.specs.Word.{IsWord}
-use Rattle.gft_opts.specs.declared.retr.RetrOptions.{RetrOptions}
+use Rattle.gft_base.specs.Words.{IsNumber, Lacks}
+use Rattle.gft_text.specs.declared.TheConstants.{LINE_LIMIT}
+use Rattle.gft_opts.specs.Words.{IsRetr, retr_text, IsWord}
+use Rattle.gft_opts.specs.declared.RetrOptions.{RetrOptions}
 use Rattle.gft_command.specs.Telnet.{doubled}
 use Rattle.gft_command.specs.declared.error.CommandError.{CommandError}
 use Rattle.gft_command.specs.declared.error.CommandError.TheVariants.{UnknownVerb, MissingParameter, BadParameter, OutOfMemory}

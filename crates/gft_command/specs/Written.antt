@@ -1,11 +1,8 @@
 -- The text of a command: how it is written, and which commands have one.
 use Rattle.std.specs.Prelude.{◌≡◌, ℕ, ◌≤◌, ◌++◌, List, [], ◌∷◌, length, codes, decimal}
-use Rattle.gft_text.specs.HostPort.{host_port_text}
-use Rattle.gft_text.specs.LineStream.{Line, told}
-use Rattle.gft_range.specs.ListText.{list_text}
-use Rattle.gft_opts.specs.Part.{FitsEret, FitsEsto, eret_text, esto_text}
-use Rattle.gft_opts.specs.Retr.{FitsRetr}
-use Rattle.gft_opts.specs.Targets.{FitsTargets, targets_text}
+use Rattle.gft_text.specs.Words.{host_port_text, Line, told}
+use Rattle.gft_range.specs.Words.{list_text}
+use Rattle.gft_opts.specs.Words.{FitsEret, FitsEsto, eret_text, esto_text, FitsRetr, FitsTargets, targets_text}
 use Rattle.gft_command.specs.Commands.{IsCommand, Says, verb_of}
 use Rattle.gft_command.specs.Parameters.{FitsBytes, FitsWords, IsCapital, IsWritable, options_text}
 use Rattle.gft_command.specs.Telnet.{doubled}

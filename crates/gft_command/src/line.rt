@@ -1,7 +1,7 @@
 //! The line of a command, as it is sent.
 
 ghost use Rattle.std.specs.Prelude.{◌≡◌, ◌≤◌, ◌^◌, decimal, ◌++◌, ◌<◌, length, ◌∷◌, [], ◌↔◌, IsTrue, IfOk, OnOk};
-ghost use Rattle.gft_base.specs.Parts.{Lacks};
+ghost use Rattle.gft_base.specs.Words.{Lacks};
 ghost use Rattle.gft_command.specs.Parameters.{FitsBehind};
 ghost use Rattle.gft_command.specs.Telnet.{doubled};
 

@@ -1,5 +1,7 @@
-pub mod OptionLemmas
-pub mod HonestLemmas
-pub mod KeptLemmas
-pub mod MachineLemmas
-pub mod ProgressLemmas
+mod OptionLemmas
+mod HonestLemmas
+mod KeptLemmas
+mod MachineLemmas
+mod ProgressLemmas
+-- what the proofs of other crates may cite
+pub mod Lemmas

@@ -1,8 +1,8 @@
 -- What one event more books, and when the machine is done.
 use Rattle.std.proofs.Common.{◌≡◌, ◌⊎◌, ℕ, ◌+◌, ◌-◌, ◌<◌, ◌≤◌, ◌↔◌, List, [], ◌∷◌, ◌++◌, length, Ok, Err, Some, None, Bool, true, false, true≢false, refl, sym, ap, ◌∙◌, inl, inr, ⊎_elim, is_err, arith}
 use Rattle.std.specs.Prelude.{Option, Result, IsTrue, OnOk, IfErr}
-use Rattle.gft_range.specs.declared.range.Range.{Range}
-use Rattle.gft_range.specs.Range.{InRange, HasOffset}
+use Rattle.gft_range.specs.declared.Range.{Range}
+use Rattle.gft_range.specs.Words.{InRange, HasOffset}
 use Rattle.gft_core.specs.declared.event.CoreEvent.{CoreEvent}
 use Rattle.gft_core.specs.declared.event.CoreEvent.TheVariants.{Block}
 use Rattle.gft_core.specs.declared.taken.TakenBlock.{TakenBlock}

@@ -5,10 +5,10 @@ use Rattle.std.proofs.lemmas.Option.{none-some, same_Some}
 use Rattle.std.proofs.lemmas.Bool.{le-ltb, lt-leb}
 use mathlib.Core.Logic.{dite}
 use native.Mathlib.Decide.{ℕ_discrete}
-use Rattle.gft_eod.specs.Count.{Count, IsWithin}
-use Rattle.gft_eod.specs.declared.error.EodError.{EodError}
-use Rattle.gft_eod.specs.declared.error.EodError.TheVariants.{BadTotal, TwoTotals, TooManyEods}
-use Rattle.gft_eod.specs.Refusal.{eods_refusal, totals_refusal, eof_refusal, eod_refusal}
+use Rattle.gft_eod.specs.declared.TheConstants.{MAX_EODS}
+use Rattle.gft_eod.specs.Words.{Count, IsWithin, eods_refusal, totals_refusal, eof_refusal, eod_refusal}
+use Rattle.gft_eod.specs.declared.EodError.{EodError}
+use Rattle.gft_eod.specs.declared.EodError.TheVariants.{BadTotal, TwoTotals, TooManyEods}
 use Rattle.gft_core.specs.declared.event.CoreEvent.{CoreEvent}
 use Rattle.gft_core.specs.declared.event.CoreEvent.TheVariants.{Block, Eod, Eof, Mark}
 use Rattle.gft_core.specs.declared.progress.Progress.{Progress}
@@ -73,8 +73,8 @@ Counts-eod lane transfer old new same more c =
     }
 
 -- an Eod that fits is taken
-pub eod_fits : (known : Option ℕ) (taken n : ℕ) → n ≤ 1024 → ((k : ℕ) → known ≡ Some k → k ≡ n) → taken + 1 ≤ n → eod_refusal (record { total = known; eods = taken }) ≡ None
-eod_fits None taken n most is below = ap (λ (c : Bool). if c then Some (TooManyEods 1024) else None) (lt-leb 1024 taken (omega arith))
+pub eod_fits : (known : Option ℕ) (taken n : ℕ) → n ≤ MAX_EODS → ((k : ℕ) → known ≡ Some k → k ≡ n) → taken + 1 ≤ n → eod_refusal (record { total = known; eods = taken }) ≡ None
+eod_fits None taken n most is below = ap (λ (c : Bool). if c then Some (TooManyEods MAX_EODS) else None) (lt-leb MAX_EODS taken (omega arith))
 eod_fits (Some k) taken n most is below =
     let k_is = is k refl in ap (λ (c : Bool). if c then Some (TooManyEods k) else None) (lt-leb k taken (omega arith))
 
@@ -107,10 +107,10 @@ totals_fit (Some k) taken new is le =
     ap (λ (c : Bool). if c then eods_refusal taken new else Some (TwoTotals k new)) (eq-eqb k new (is k refl)) ∙ eods_fit taken new le
 
 -- an Eof that fits is taken
-pub eof_fits : (count : Count) (new : ℕ) → 1 ≤ new → new ≤ 1024 → ((k : ℕ) → count.total ≡ Some k → k ≡ new) → count.eods ≤ new → eof_refusal count new ≡ None
+pub eof_fits : (count : Count) (new : ℕ) → 1 ≤ new → new ≤ MAX_EODS → ((k : ℕ) → count.total ≡ Some k → k ≡ new) → count.eods ≤ new → eof_refusal count new ≡ None
 eof_fits count new some most is le =
-    ap (λ (c : Bool). if c || nat_lt 1024 new then Some (BadTotal new) else totals_refusal count.total count.eods new) (ne_eqb new 0 (λ e. omega arith))
-    ∙ ap (λ (c : Bool). if c then Some (BadTotal new) else totals_refusal count.total count.eods new) (le-ltb 1024 new most)
+    ap (λ (c : Bool). if c || nat_lt MAX_EODS new then Some (BadTotal new) else totals_refusal count.total count.eods new) (ne_eqb new 0 (λ e. omega arith))
+    ∙ ap (λ (c : Bool). if c then Some (BadTotal new) else totals_refusal count.total count.eods new) (le-ltb MAX_EODS new most)
     ∙ totals_fit count.total count.eods new is le
 
 pub broken-eof : (new : ℕ) (transfer : List CoreEvent) (count : Count) (error : EodError) → eof_refusal count new ≡ Some error → Counts transfer count → (n : ℕ) → ¬ IsUnbroken (Eof new ∷ transfer) n
@@ -133,7 +133,7 @@ first_is (Some k) taken new fits =
 
 pub Counts-eof : (announced : ℕ) (transfer : List CoreEvent) (old new : Count) → eof_refusal old announced ≡ None → new.total ≡ Some announced → new.eods ≡ old.eods → Counts transfer old → Counts (Eof announced ∷ transfer) new
 Counts-eof announced transfer old new fits kept same c =
-    let is_first = first_is old.total old.eods announced (else_none (nat_eq announced 0 || nat_lt 1024 announced) (BadTotal announced) (totals_refusal old.total old.eods announced) fits) in
+    let is_first = first_is old.total old.eods announced (else_none (nat_eq announced 0 || nat_lt MAX_EODS announced) (BadTotal announced) (totals_refusal old.total old.eods announced) fits) in
     record {
       total = ap (λ o. first o (Some announced)) c.total ∙ is_first ∙ sym kept;
       eods = omega (arith, c.eods, same);

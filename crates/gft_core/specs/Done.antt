@@ -1,5 +1,6 @@
 -- When a transfer is done.
 use Rattle.std.specs.Prelude.{◌≡◌, ℕ, ◌+◌, ◌<◌, ◌≤◌, ◌↔◌, List, [], ◌∷◌, Option, Some, None, Bool, true, false}
+use Rattle.gft_eod.specs.declared.TheConstants.{MAX_EODS}
 use Rattle.gft_core.specs.declared.event.CoreEvent.{CoreEvent}
 use Rattle.gft_core.specs.declared.event.CoreEvent.TheVariants.{Eod, Eof, Lost, Fault, Abort, Fresh, Resume}
 use Rattle.gft_core.specs.Kept.{first, Booked}
@@ -53,7 +54,7 @@ pub record Done (events : List CoreEvent) : Type 0 where
   pub begun : begun events ≡ true
   pub number : ℕ
   pub total : total (since events) ≡ Some number
-  pub in_bounds : (1 ≤ number) × (number ≤ 1024)
+  pub in_bounds : (1 ≤ number) × (number ≤ MAX_EODS)
   pub met : eods (since events) ≡ number
   pub passes : AllPass number (since events)
   pub whole : (end : ℕ) × ((x : ℕ) → Booked events x ↔ (x < end))

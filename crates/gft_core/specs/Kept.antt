@@ -1,6 +1,6 @@
 -- Lists of events, the newest first, and the bytes that they leave of a name.
 use Rattle.std.specs.Prelude.{◌≡◌, ℕ, ◌+◌, ◌≤◌, ◌==◌, List, [], ◌∷◌, length, Option, Some, None, true, false, if◌then◌else◌}
-use Rattle.gft_base.specs.declared.limit.TheConstants.{LIMIT}
+use Rattle.gft_base.specs.declared.TheConstants.{LIMIT}
 use Rattle.gft_core.specs.declared.event.CoreEvent.{CoreEvent}
 use Rattle.gft_core.specs.declared.event.CoreEvent.TheVariants.{Block, Fresh}
 

@@ -3,3 +3,4 @@ pub mod Kept
 pub mod Laws
 pub mod Machine
 pub mod Progress
+pub mod Words

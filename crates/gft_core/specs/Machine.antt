@@ -1,7 +1,6 @@
 -- What the plain machine keeps, and the lists of events that it stands for.
 use Rattle.std.specs.Prelude.{◌≡◌, ℕ, ◌↔◌, List, [], ◌∷◌, Option, None}
-use Rattle.gft_range.specs.Range.{HasOffset}
-use Rattle.gft_range.specs.Set.{KeptRanges}
+use Rattle.gft_range.specs.Words.{HasOffset, KeptRanges}
 use Rattle.gft_core.specs.declared.event.CoreEvent.{CoreEvent}
 use Rattle.gft_core.specs.declared.progress.Progress.{Progress}
 use Rattle.gft_core.specs.declared.taken.TakenBlock.{TakenBlock}

@@ -1,6 +1,7 @@
 -- Where the last transfer stands, and the lists of events that leave it there.
 use Rattle.std.specs.Prelude.{◌≡◌, ℕ, ◌≤◌, List, Some, true, false}
-use Rattle.gft_eod.specs.Count.{Count, IsCount, IsMet}
+use Rattle.gft_eod.specs.declared.TheConstants.{MAX_EODS}
+use Rattle.gft_eod.specs.Words.{Count, IsCount, IsMet}
 use Rattle.gft_core.specs.declared.event.CoreEvent.{CoreEvent}
 use Rattle.gft_core.specs.declared.progress.Progress.{Progress}
 use Rattle.gft_core.specs.declared.progress.Progress.TheVariants.{Idle, Counting, Failed}
@@ -9,7 +10,7 @@ use Rattle.gft_core.specs.Done.{since, begun, total, eods, AllPass}
 
 -- events that leave a transfer with n EODs unbroken
 pub record IsUnbroken (transfer : List CoreEvent) (n : ℕ) : Type 0 where
-  pub in_bounds : (1 ≤ n) × (n ≤ 1024)
+  pub in_bounds : (1 ≤ n) × (n ≤ MAX_EODS)
   pub at_most : eods transfer ≤ n
   pub passes : AllPass n transfer
 

@@ -1,7 +1,6 @@
 ghost use Rattle.std.specs.Prelude.{◌≡◌, ℕ, ◌+◌, ◌≤◌, ◌↔◌, List, [], ◌∷◌, length, false, IsTrue, OnOk, OnErr};
-ghost use Rattle.gft_base.specs.declared.limit.TheConstants.{LIMIT};
-ghost use Rattle.gft_range.specs.Normal.{IsNormal};
-ghost use Rattle.gft_range.specs.Range.{HasOffset};
+ghost use Rattle.gft_base.specs.declared.TheConstants.{LIMIT};
+ghost use Rattle.gft_range.specs.Words.{IsNormal, HasOffset};
 ghost use Rattle.gft_core.specs.declared.event.CoreEvent.{CoreEvent};
 ghost use Rattle.gft_core.specs.declared.event.CoreEvent.TheVariants.{Block};
 ghost use Rattle.gft_core.specs.Kept.{kept, Booked, EndsInLimit};
@@ -28,7 +27,7 @@ pub struct Core {
 }
 
 impl Model for Core {
-    ghost use Rattle.gft_range.specs.Normal.{IsNormal};
+    ghost use Rattle.gft_range.specs.Words.{IsNormal};
     ghost use Rattle.gft_core.specs.Machine.{State};
 
     ghost Value = { State };

@@ -1,3 +1,5 @@
-pub mod Known
-pub mod Reading
-pub mod Steps
+mod Known
+mod Reading
+mod Steps
+-- what the proofs of other crates may cite
+pub mod Lemmas

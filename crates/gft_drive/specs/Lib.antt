@@ -4,3 +4,4 @@ pub mod Memory
 pub mod Sink
 pub mod Streams
 pub mod Write
+pub mod Words

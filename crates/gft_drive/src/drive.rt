@@ -1,5 +1,5 @@
 ghost use Rattle.std.specs.Prelude.{◌<◌, ◌≤◌, ℕ, length, IfOk, OnOk};
-ghost use Rattle.gft_base.specs.Causes.{HasCause};
+ghost use Rattle.gft_base.specs.Words.{HasCause};
 ghost use Rattle.gft_drive.specs.Drive.{DriveState, Goes, Looks, Reads, HasLength, HasRead};
 ghost use Rattle.gft_drive.specs.Write.{Written, CutTo, Same, Anything};
 

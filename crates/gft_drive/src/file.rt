@@ -1,5 +1,5 @@
 ghost use Rattle.std.specs.Prelude.{◌≡◌, ◌≤◌, length, string_bytes, IfOk, IsOk};
-ghost use Rattle.gft_base.specs.Causes.{HasCause};
+ghost use Rattle.gft_base.specs.Words.{HasCause};
 
 use crate::drive::{Drive, Part};
 use gft_base::{Failed, Faults};

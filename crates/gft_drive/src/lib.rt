@@ -19,10 +19,16 @@ mod tests;
 pub use drive::{Drive, Part};
 pub use failures::{CallKind, DriveCall, FailAt};
 pub use file::FileDrive;
-pub use memory::{MemoryDrive, RANGES_LEN};
+pub use memory::MemoryDrive;
 pub use memory_sink::MemorySink;
 pub use memory_source::MemorySource;
 pub use origin::{Origin, Unknown};
 pub use sink::Sink;
 pub use source::Source;
 pub use streams::{ReadSource, WriteSink};
+
+/// The bytes of the `Ranges` part of a new drive, and its room.
+pub const RANGES_LEN: u64 = 2_097_216;
+
+// The definitions of all crates cite the name: its number is pinned here.
+const _: () = prove!(RANGES_LEN == 2_097_216);

@@ -1,16 +1,14 @@
 ghost use Rattle.std.specs.Prelude.{◌≡◌, ◌+◌, ◌-◌, ◌<◌, ◌≤◌, min, max, [], ◌∷◌, ◌++◌, length, take, drop, ◌^◌, ◌↔◌, ℕ, slice_get, slice_index, vec_capacity, IfOk, OnOk, OnErr, IsOk};
-ghost use Rattle.gft_base.specs.Causes.{HasCause};
+ghost use Rattle.gft_base.specs.Words.{HasCause};
 ghost use Rattle.gft_drive.specs.Memory.{IsNew};
 ghost use Rattle.gft_drive.specs.Write.{Written};
 
+use crate::RANGES_LEN;
 use crate::drive::{Drive, Part};
 use crate::failures::{CallKind, DriveCall, FailAt};
 use gft_base::{Failed, Faults, OutOfMemory};
 use std::alloc::Global;
 use std::marker::Model;
-
-/// The bytes of the `Ranges` part of a new drive, and its room.
-pub const RANGES_LEN: u64 = 2_097_216;
 
 /// How many calls are kept at most.
 const KEPT_CALLS: u32 = 65_536;

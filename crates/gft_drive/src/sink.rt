@@ -1,6 +1,6 @@
 ghost use Rattle.std.specs.Prelude.{ℕ, List, Option, MatchResult, OnOk};
 ghost use Rattle.std.specs.Io.KnownBytes.{Appends};
-ghost use Rattle.gft_base.specs.Causes.{HasCause};
+ghost use Rattle.gft_base.specs.Words.{HasCause};
 ghost use Rattle.gft_drive.specs.Sink.{AppendsPart};
 
 use gft_base::Failed;

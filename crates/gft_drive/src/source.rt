@@ -1,7 +1,7 @@
 ghost use Rattle.std.specs.Prelude.{ℕ, ◌<◌, List, Option, length};
 ghost use Rattle.std.specs.Io.{ReadsAtMost};
 ghost use Rattle.std.specs.Io.KnownBytes.{ReadConsumes};
-ghost use Rattle.gft_base.specs.Causes.{HasCause};
+ghost use Rattle.gft_base.specs.Words.{HasCause};
 
 use gft_base::Failed;
 

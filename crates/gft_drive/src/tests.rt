@@ -1,7 +1,8 @@
 use crate::drive::{Drive, Part};
 use crate::failures::{CallKind, DriveCall, FailAt};
 use crate::file::FileDrive;
-use crate::memory::{MemoryDrive, RANGES_LEN};
+use crate::RANGES_LEN;
+use crate::memory::MemoryDrive;
 use crate::memory_sink::MemorySink;
 use crate::memory_source::MemorySource;
 use crate::sink::Sink;

@@ -2,7 +2,7 @@
 use Rattle.std.proofs.Common.{◌≡◌, ℕ, ◌+◌, ◌<◌, ◌^◌, false, cond, List, [], ◌∷◌, ◌++◌, length, drop, refl, ap, ◌∙◌, subst, add-zero}
 use Rattle.std.proofs.Math.Seq.{drop-append_seam}
 use Rattle.gft_eblock.specs.declared.header.Header.{Header}
-use Rattle.gft_base.specs.Arrival.{Arrival, Eof}
+use Rattle.gft_eblock.specs.Arrival.{Arrival, Eof}
 use Rattle.gft_eblock.specs.Header.{is_bad, is_eod, is_eof}
 use Rattle.gft_eblock.specs.Spelling.{spelling}
 use Rattle.gft_eblock.specs.Arrivals.{data_at, data_then, end_or, good_block, blocks_from}

@@ -3,7 +3,7 @@ use Rattle.std.proofs.Common.{◌≡◌, ℕ, zero, suc, ◌+◌, ◌-◌, ◌<�
 use Rattle.std.proofs.Math.Seq.{take-append_seam, drop-append_seam, take-append-add}
 use Rattle.std.proofs.lemmas.Bool.{cases_lt, lt-ltb, le-ltb}
 use Rattle.gft_eblock.specs.Spelling.{header_of}
-use Rattle.gft_base.specs.Arrival.{Arrival, At}
+use Rattle.gft_eblock.specs.Arrival.{Arrival, At}
 use Rattle.gft_eblock.specs.Arrivals.{data_at, data_then, block_then, blocks_within, blocks_from}
 
 -- ---- data

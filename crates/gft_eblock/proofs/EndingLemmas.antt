@@ -2,7 +2,7 @@
 use Rattle.std.proofs.Common.{◌≡◌, ℕ, zero, suc, ◌+◌, ◌-◌, ◌<◌, ◌≤◌, Bool, true, false, cond, List, [], ◌∷◌, ◌++◌, length, take, drop, ◌⊎◌, inl, inr, append_assoc, append-nil, refl, sym, ap, ◌∙◌, subst, arith, length-append, length-drop}
 use Rattle.std.proofs.lemmas.Bool.{cases_lt, lt-ltb, le-ltb}
 use Rattle.std.proofs.lemmas.List.{take_all, take-append-le, take-append-drop, drop-append-le, length-take-le}
-use Rattle.gft_base.specs.Arrival.{Arrival, At, Eof, Eod, Bad}
+use Rattle.gft_eblock.specs.Arrival.{Arrival, At, Eof, Eod, Bad}
 use Rattle.gft_eblock.specs.declared.header.Header.{Header}
 use Rattle.gft_eblock.specs.Header.{is_bad, is_eod, is_eof}
 use Rattle.gft_eblock.specs.Spelling.{header_of}

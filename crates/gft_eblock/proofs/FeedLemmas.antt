@@ -9,8 +9,8 @@ use Rattle.gft_eblock.specs.declared.event.Event.TheVariants as event
 use Rattle.gft_eblock.specs.declared.channel.State.{State}
 use Rattle.gft_eblock.specs.declared.event.Step.{Step}
 use Rattle.gft_eblock.specs.declared.channel.State.TheVariants.{Header, Data, EodWaits, Done, Failed}
-use Rattle.gft_base.specs.declared.limit.TheConstants.{LIMIT}
-use Rattle.gft_base.specs.Arrival.{Eof, Bad, Refusal}
+use Rattle.gft_base.specs.declared.TheConstants.{LIMIT}
+use Rattle.gft_eblock.specs.Arrival.{Eof, Bad, Refusal}
 use Rattle.gft_eblock.specs.declared.header.Header as header
 use Rattle.gft_eblock.specs.Header.{is_bad, is_eod, is_eof}
 use Rattle.gft_eblock.specs.Spelling.{header_of}

@@ -1,6 +1,8 @@
-pub mod BlockLaw
-pub mod BlockLemmas
-pub mod EndingLemmas
-pub mod FeedLemmas
-pub mod SpellingLemmas
-pub mod ToComeLemmas
+mod BlockLaw
+mod BlockLemmas
+mod EndingLemmas
+mod FeedLemmas
+mod SpellingLemmas
+mod ToComeLemmas
+-- what the proofs of other crates may cite
+pub mod Lemmas

@@ -1,6 +1,6 @@
 -- What the bytes of one data connection tell, as one list: the bytes are split into blocks from the front.
 use Rattle.std.specs.Prelude.{ℕ, zero, suc, ◌+◌, Bool, if◌then◌else◌, nat_lt, List, [], ◌∷◌, ◌++◌, length, take, drop}
-use Rattle.gft_base.specs.Arrival.{Arrival, At, Eof, Eod, Bad, Refusal}
+use Rattle.gft_eblock.specs.Arrival.{Arrival, At, Eof, Eod, Bad, Refusal}
 use Rattle.gft_eblock.specs.declared.header.Header.{Header}
 use Rattle.gft_eblock.specs.Header.{is_bad, is_eod, is_eof}
 use Rattle.gft_eblock.specs.Spelling.{header_of}

@@ -1,9 +1,9 @@
 -- Where a channel stands in its stream, and what is still to come.
 use Rattle.std.specs.Prelude.{◌≡◌, ℕ, ◌+◌, ◌-◌, ◌<◌, ◌≤◌, List, [], ◌∷◌, ◌++◌, length, drop}
-use Rattle.gft_base.specs.declared.limit.TheConstants.{LIMIT}
-use Rattle.gft_base.specs.Arrival.{Arrival, Eod, Bad, Refusal}
+use Rattle.gft_base.specs.declared.TheConstants.{LIMIT}
+use Rattle.gft_eblock.specs.Arrival.{Arrival, Eod, Bad, Refusal}
 use Rattle.gft_eblock.specs.declared.bad_block.BadBlock.{BadBlock}
-use Rattle.gft_eblock.specs.declared.channel.TheConstants.{MOST_BYTES}
+use Rattle.gft_eblock.specs.declared.TheConstants.{MAX_BYTES}
 use Rattle.gft_eblock.specs.declared.channel.State.{State}
 use Rattle.gft_eblock.specs.declared.channel.State.TheVariants.{Header, Data, EodWaits, Done, Failed}
 use Rattle.gft_eblock.specs.Arrivals.{data_then, end_or, blocks_from}
@@ -66,4 +66,4 @@ IsSoundState (Failed bad) taken header = (header ≡ []) × (taken ≡ bad.place
 IsSoundState _ taken header = header ≡ []
 
 abbrev pub IsSound : Reader → Type 0
-IsSound r = (r.shift ≤ LIMIT) × (r.taken ≤ MOST_BYTES) × IsSoundState r.state r.taken r.header
+IsSound r = (r.shift ≤ LIMIT) × (r.taken ≤ MAX_BYTES) × IsSoundState r.state r.taken r.header

@@ -1,7 +1,7 @@
 -- What a channel does with a piece of its stream.
 use Rattle.std.specs.Prelude.{◌≡◌, ℕ, ◌+◌, ◌<◌, ◌≤◌, List, [], ◌∷◌, ◌++◌, length, take, Option, Some, None}
-use Rattle.gft_base.specs.declared.limit.TheConstants.{LIMIT}
-use Rattle.gft_base.specs.Arrival.{Arrival, Eof, Eod, Bad}
+use Rattle.gft_base.specs.declared.TheConstants.{LIMIT}
+use Rattle.gft_eblock.specs.Arrival.{Arrival, Eof, Eod, Bad}
 use Rattle.gft_eblock.specs.declared.bad_block.BadBlock.{BadBlock}
 use Rattle.gft_eblock.specs.declared.event.Step.{Step}
 use Rattle.gft_eblock.specs.declared.event.Event.{Event}

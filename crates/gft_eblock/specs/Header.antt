@@ -1,6 +1,6 @@
 -- Which blocks are refused, and what the flags of a block say (GFD.20, extended block mode).
 use Rattle.std.specs.Prelude.{ℕ, ◌+◌, Bool, not, ◌&&◌, ◌||◌, ◌==◌, nat_lt, bit_and}
-use Rattle.gft_base.specs.declared.limit.TheConstants.{LIMIT}
+use Rattle.gft_base.specs.declared.TheConstants.{LIMIT}
 use Rattle.gft_eblock.specs.declared.header.Header.{Header}
 
 unfoldable pub has_flag : ℕ → ℕ → Bool

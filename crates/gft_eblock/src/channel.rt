@@ -13,13 +13,14 @@
 //! | `EodWaits` | the EOD, once told | `Done` |
 
 ghost use Rattle.std.specs.Prelude.{◌≡◌, ℕ, ◌+◌, ◌^◌, ◌<◌, ◌≤◌, ◌↔◌, List, [], ◌∷◌, ◌++◌, length, take, drop, IsTrue, IsNone, IsErr, IfOk, IfErr, Some, Err, false};
-ghost use Rattle.gft_base.specs.Arrival.{Bad, Refusal};
+ghost use Rattle.gft_eblock.specs.Arrival.{Bad, Refusal};
 ghost use Rattle.gft_eblock.specs.declared.bad_block.BadBlock.{BadBlock};
 ghost use Rattle.gft_eblock.specs.Header.{is_bad};
 ghost use Rattle.gft_eblock.specs.Arrivals.{arrivals, blocks_from, good_block};
 ghost use Rattle.gft_eblock.specs.Channel.{HasFailed, IsDone, IsReading, IsSoundState, to_come, to_come_in, wanted};
 ghost use Rattle.gft_eblock.specs.Feeding.{Advances, Fails, IsEventOf, event_arrivals};
 
+use crate::MAX_BYTES;
 use crate::bad_block::BadBlock;
 use crate::event::{Event, Step};
 use crate::flags::Flags;
@@ -27,9 +28,6 @@ use crate::header::{HEADER_LEN, Header, decode};
 use arrayvec::ArrayVec;
 use gft_base::LIMIT;
 use std::marker::Model;
-
-/// The most bytes that one channel takes.
-pub const MOST_BYTES: u64 = 1 << 58;
 
 /// What the next byte of a channel is.
 #[derive(Clone, Copy, Debug)]
@@ -89,7 +87,7 @@ impl Channel {
     /// How many bytes were taken.
     pub fn taken(&self) -> u64
         ensures taken { result ≡ self.now.taken }
-        ensures bound { result ≤ MOST_BYTES }
+        ensures bound { result ≤ MAX_BYTES }
     {
         self.taken
     }
@@ -123,7 +121,7 @@ impl Channel {
     /// it again and takes nothing.
     pub fn feed<'a>(&mut self, piece: &'a [u8]) -> Result<Step<'a>, BadBlock>
         requires not_done { ¬ IsDone self.old }
-        requires room { self.old.taken + length piece.now ≤ MOST_BYTES }
+        requires room { self.old.taken + length piece.now ≤ MAX_BYTES }
         ensures ok { IfOk result (λ step. Advances self.old piece.now step self.new) }
         ensures whole { IfOk result (λ step. IsNone step.event → step.used ≡ length piece.now) }
         ensures wanted { IfOk result (λ step.
@@ -156,7 +154,7 @@ impl Channel {
     /// Takes the bytes of one header, or of one piece of data.
     fn step<'a>(&mut self, piece: &'a [u8]) -> Result<Step<'a>, BadBlock>
         requires not_done { ¬ IsDone self.old }
-        requires room { self.old.taken + length piece.now ≤ MOST_BYTES }
+        requires room { self.old.taken + length piece.now ≤ MAX_BYTES }
         ensures ok { IfOk result (λ step. Advances self.old piece.now step self.new) }
         ensures progress { IfOk result (λ step.
             IsNone step.event → 0 < length piece.now → 0 < step.used) }
@@ -191,7 +189,7 @@ impl Channel {
     /// Takes bytes of a header, and opens its block behind the last of them.
     fn take_header<'a>(&mut self, piece: &'a [u8]) -> Result<Step<'a>, BadBlock>
         requires header { self.old.state ≡ State.Header }
-        requires room { self.old.taken + length piece.now ≤ MOST_BYTES }
+        requires room { self.old.taken + length piece.now ≤ MAX_BYTES }
         ensures ok { IfOk result (λ step. Advances self.old piece.now step self.new) }
         ensures progress { IfOk result (λ step. 0 < length piece.now → 0 < step.used) }
         ensures wanted { IfOk result (λ step.

@@ -1,7 +1,7 @@
 //! What holds of every stream. Each law is a function with an empty body; whoever calls it knows it.
 
 ghost use Rattle.std.specs.Prelude.{◌≡◌, ℕ, ◌+◌, ◌^◌, ◌<◌, List, [], ◌∷◌, ◌++◌, length, false, if◌then◌else◌};
-ghost use Rattle.gft_base.specs.Arrival.{Arrival, Eof};
+ghost use Rattle.gft_eblock.specs.Arrival.{Arrival, Eof};
 ghost use Rattle.gft_eblock.specs.declared.header.Header.{Header};
 ghost use Rattle.gft_eblock.specs.Header.{is_bad, is_eod, is_eof};
 ghost use Rattle.gft_eblock.specs.Spelling.{spelling};

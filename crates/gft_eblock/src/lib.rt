@@ -24,7 +24,13 @@ mod laws;
 mod tests;
 
 pub use bad_block::BadBlock;
-pub use channel::{Channel, MOST_BYTES};
+pub use channel::Channel;
 pub use event::{Event, Step};
 pub use header::{Header, encode};
 pub use laws::{early, grows, nothing_after, one_block};
+
+/// The most bytes that one channel takes.
+pub const MAX_BYTES: u64 = 1 << 58;
+
+// The definitions of all crates cite the name: its number is pinned here.
+const _: () = prove!(MAX_BYTES == 288_230_376_151_711_744);

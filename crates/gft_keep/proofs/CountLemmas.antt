@@ -1,10 +1,8 @@
 -- How many offsets a normal list has.
 use Rattle.std.proofs.Common.{◌≡◌, ℕ, ◌+◌, ◌-◌, ◌<◌, ◌≤◌, List, [], ◌∷◌, refl, ap, arith, inl, inr}
-use Rattle.gft_range.specs.declared.range.Range.{Range}
-use Rattle.gft_range.specs.Range.{InRange, HasOffset}
-use Rattle.gft_range.specs.Normal.{IsNormal, BeginsAbove}
-use Rattle.gft_range.specs.Set.{IsMissing}
-use Rattle.gft_range.proofs.NormalLemmas.{one_list}
+use Rattle.gft_range.specs.declared.Range.{Range}
+use Rattle.gft_range.specs.Words.{InRange, HasOffset, IsNormal, BeginsAbove, IsMissing}
+use Rattle.gft_range.proofs.Lemmas.{one_list}
 use Rattle.gft_keep.specs.Store.{offset_count}
 use Rattle.gft_keep.specs.Writing.{AreLeft}
 

@@ -3,14 +3,11 @@ use Rattle.std.proofs.Common.{◌≡◌, ℕ, ◌+◌, ◌-◌, ◌<◌, ◌≤�
 use Rattle.std.specs.Prelude.{slice_index}
 use Rattle.std.proofs.lemmas.Bool.{cases_lt}
 use Rattle.std.proofs.lemmas.List.{length-take-le, get_or-take, get_or-drop}
-use Rattle.gft_range.specs.declared.range.Range.{Range}
-use Rattle.gft_range.specs.Range.{InRange, HasOffset}
-use Rattle.gft_range.specs.Normal.{IsNormal}
-use Rattle.gft_range.specs.Set.{IsMissing}
-use Rattle.gft_drive.specs.Drive.{DriveState, Image, Goes, Reads}
-use Rattle.gft_drive.proofs.Steps.{told_before}
-use Rattle.gft_drive.specs.declared.drive.Part.TheVariants.{Bytes}
-use Rattle.gft_drive.specs.Write.{Written, CutTo}
+use Rattle.gft_range.specs.declared.Range.{Range}
+use Rattle.gft_range.specs.Words.{InRange, HasOffset, IsNormal, IsMissing}
+use Rattle.gft_drive.specs.Words.{DriveState, Image, Goes, Reads, Written, CutTo}
+use Rattle.gft_drive.proofs.Lemmas.{told_before}
+use Rattle.gft_drive.specs.declared.Part.TheVariants.{Bytes}
 use Rattle.gft_keep.specs.Holds.{HoldsAll, Holds}
 use Rattle.gft_keep.specs.Store.{Stores, Finishes}
 use Rattle.gft_keep.specs.Writing.{AreLeft, Writing}

@@ -1,3 +1,3 @@
-pub mod CountLemmas
-pub mod FileLemmas
-pub mod FullLemmas
+mod CountLemmas
+mod FileLemmas
+mod FullLemmas

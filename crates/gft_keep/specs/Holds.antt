@@ -1,8 +1,8 @@
 -- A file that has each offset of a set.
 use Rattle.std.specs.Prelude.{◌≡◌, ℕ, ◌<◌, List, length, Some}
-use Rattle.gft_drive.specs.Drive.{Image, DriveState}
-use Rattle.gft_range.specs.declared.range.Range.{Range}
-use Rattle.gft_range.specs.Range.{HasOffset}
+use Rattle.gft_drive.specs.Words.{Image, DriveState}
+use Rattle.gft_range.specs.declared.Range.{Range}
+use Rattle.gft_range.specs.Words.{HasOffset}
 
 abbrev pub HoldsAll : List Range → List ℕ → Type 0
 HoldsAll set file = (x : ℕ) → HasOffset set x → x < length file

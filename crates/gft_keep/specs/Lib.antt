@@ -1,3 +1,4 @@
 pub mod Holds
 pub mod Store
 pub mod Writing
+pub mod Words

@@ -1,10 +1,8 @@
 -- What storing a block does to a file.
 use Rattle.std.specs.Prelude.{◌≡◌, ℕ, ◌+◌, ◌-◌, ◌<◌, List, [], ◌∷◌, length, take, slice_index}
-use Rattle.gft_range.specs.declared.range.Range.{Range}
-use Rattle.gft_range.specs.Range.{HasOffset}
-use Rattle.gft_range.specs.Normal.{IsNormal}
-use Rattle.gft_range.specs.Set.{IsUnion, IsMissing}
-use Rattle.gft_keep.specs.declared.keep.TheConstants.{MOST_RANGES}
+use Rattle.gft_range.specs.declared.Range.{Range}
+use Rattle.gft_range.specs.Words.{HasOffset, IsNormal, IsUnion, IsMissing}
+use Rattle.gft_keep.specs.declared.TheConstants.{MAX_RANGES}
 
 -- the offsets of a block's bytes
 abbrev pub block_of : ℕ → List ℕ → Range
@@ -29,10 +27,10 @@ IsNewCount set block n = (missing : List Range) → IsMissing set block missing 
 -- as many ranges are kept as may be, and with the block there is one more
 pub record IsFull (set : List Range) (block : Range) : Type 0 where
   pub normal : IsNormal set
-  pub at_limit : length set ≡ MOST_RANGES
+  pub at_limit : length set ≡ MAX_RANGES
   pub union : List Range
   pub is_union : IsUnion set block union
-  pub one_more : length union ≡ MOST_RANGES + 1
+  pub one_more : length union ≡ MAX_RANGES + 1
 
 -- the first bytes are left, and no more
 pub record Finishes (len : ℕ) (old new : List ℕ) : Type 0 where

@@ -1,8 +1,7 @@
 -- A file while the missing parts of a block are written.
 use Rattle.std.specs.Prelude.{◌≡◌, ℕ, ◌+◌, ◌<◌, ◌≤◌, ◌⊎◌, List, length, slice_index}
-use Rattle.gft_range.specs.declared.range.Range.{Range}
-use Rattle.gft_range.specs.Normal.{IsNormal}
-use Rattle.gft_range.specs.Range.{InRange, HasOffset}
+use Rattle.gft_range.specs.declared.Range.{Range}
+use Rattle.gft_range.specs.Words.{IsNormal, InRange, HasOffset}
 
 -- these parts of the block are left to write
 pub record AreLeft (set : List Range) (block : Range) (left : List Range) : Type 0 where

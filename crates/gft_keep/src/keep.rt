@@ -1,22 +1,18 @@
 ghost use Rattle.std.specs.Prelude.{◌≡◌, ℕ, ◌+◌, ◌<◌, ◌≤◌, ◌↔◌, [], length, IsTrue, IsErr, IfOk, IfErr, OnOk, OnErr, IsErrOf, false};
-ghost use Rattle.gft_base.specs.Causes.{HasCause, Rose};
-ghost use Rattle.gft_drive.specs.Drive.{Goes, Looks, Reads, HasLength, HasRead};
-ghost use Rattle.gft_drive.specs.Write.{CutTo, Same};
-ghost use Rattle.gft_drive.specs.declared.drive.Part.TheVariants.{Bytes};
-ghost use Rattle.gft_range.specs.Range.{HasOffset, InRange};
-ghost use Rattle.gft_range.specs.Set.{IsUnion};
+ghost use Rattle.gft_base.specs.Words.{HasCause, Rose};
+ghost use Rattle.gft_drive.specs.Words.{Goes, Looks, Reads, HasLength, HasRead, CutTo, Same};
+ghost use Rattle.gft_drive.specs.declared.Part.TheVariants.{Bytes};
+ghost use Rattle.gft_range.specs.Words.{HasOffset, InRange, IsUnion};
 ghost use Rattle.gft_keep.specs.Holds.{Holds};
 ghost use Rattle.gft_keep.specs.Store.{Stores, IsNewCount, IsFull, Finishes, block_of};
 
+use crate::MAX_RANGES;
 use crate::error::{AttachError, KeepError};
 use crate::writing::write_missing;
 use gft_base::{Failed, LIMIT};
 use gft_drive::{Drive, Part};
 use gft_range::{Range, RangeSet};
 use std::alloc::Global;
-
-/// The most ranges that a file keeps.
-pub const MOST_RANGES: usize = 16_384;
 
 /// A file on a drive, and the set of its kept offsets in memory.
 ///
@@ -102,7 +98,7 @@ impl<D: Drive + Drop> Keep<D> {
         ensures emptied { OnOk result ((self.new.set.ranges ≡ []) × Reads Bytes (CutTo 0) (D.state self.old.drive) (D.state self.new.drive)) }
         ensures broken { IsTrue self.new.broken ↔ IsErr result }
         ensures failed { OnErr result (self.new.set ≡ self.old.set) }
-        ensures limit { length self.old.set.ranges ≤ MOST_RANGES → length self.new.set.ranges ≤ MOST_RANGES }
+        ensures limit { length self.old.set.ranges ≤ MAX_RANGES → length self.new.set.ranges ≤ MAX_RANGES }
         ensures goes { Goes (D.state self.old.drive) (D.state self.new.drive) }
         ensures cause { HasCause (D.state self.old.drive).faults (D.state self.new.drive).faults result }
     {
@@ -130,12 +126,12 @@ impl<D: Drive + Drop> Keep<D> {
         ensures count { IfOk result (IsNewCount self.old.set.ranges (block_of offset bytes.now)) }
         ensures holds { OnOk result (Holds self.new.set.ranges (D.state self.new.drive)) }
         ensures silent { ((x : ℕ) → InRange (block_of offset bytes.now) x → HasOffset self.old.set.ranges x) → (result ≡ Ok 0) × (self.new ≡ self.old) }
-        ensures full { IsFull self.old.set.ranges (block_of offset bytes.now) → result ≡ Err (KeepError.RangesFull MOST_RANGES) }
-        ensures full_only_at_limit { (kept : ℕ) → result ≡ Err (KeepError.RangesFull kept) → (kept ≡ MOST_RANGES) × IsFull self.old.set.ranges (block_of offset bytes.now) × (self.new ≡ self.old) }
+        ensures full { IsFull self.old.set.ranges (block_of offset bytes.now) → result ≡ Err (KeepError.RangesFull MAX_RANGES) }
+        ensures full_only_at_limit { (kept : ℕ) → result ≡ Err (KeepError.RangesFull kept) → (kept ≡ MAX_RANGES) × IsFull self.old.set.ranges (block_of offset bytes.now) × (self.new ≡ self.old) }
         ensures refused_memory { IsErrOf result KeepError.OutOfMemory → self.new ≡ self.old }
         ensures failed { IsErrOf result KeepError.Failed → (self.new.set.ranges ≡ self.old.set.ranges) × Rose (D.state self.old.drive).faults (D.state self.new.drive).faults }
         ensures broken { IsTrue self.new.broken ↔ IsErrOf result KeepError.Failed }
-        ensures limit { length self.old.set.ranges ≤ MOST_RANGES → length self.new.set.ranges ≤ MOST_RANGES }
+        ensures limit { length self.old.set.ranges ≤ MAX_RANGES → length self.new.set.ranges ≤ MAX_RANGES }
         ensures goes { Goes (D.state self.old.drive) (D.state self.new.drive) }
         ensures faults { (D.state self.old.drive).faults ≤ (D.state self.new.drive).faults }
     {
@@ -144,8 +140,8 @@ impl<D: Drive + Drop> Keep<D> {
         if self.set.covers(block) {
             return Ok(0);
         }
-        if self.set.count() == MOST_RANGES && !self.set.touches(block) {
-            let kept = MOST_RANGES as u64;
+        if self.set.count() == MAX_RANGES && !self.set.touches(block) {
+            let kept = MAX_RANGES as u64;
             return Err(KeepError::RangesFull { kept });
         }
         if self.set.reserve(1).is_err() {

@@ -9,4 +9,10 @@ mod tests;
 mod writing;
 
 pub use error::{AttachError, KeepError};
-pub use keep::{Keep, MOST_RANGES};
+pub use keep::Keep;
+
+/// The most ranges that a file keeps.
+pub const MAX_RANGES: usize = 16_384;
+
+// The definitions of all crates cite the name: its number is pinned here.
+const _: () = prove!(MAX_RANGES == 16_384);

@@ -158,18 +158,18 @@ fn a_drive_that_is_not_attached_comes_back(rt: HostRuntime) -> Result<(), Fail> 
 #[test]
 fn as_many_ranges_are_kept_as_may_be(rt: HostRuntime) -> Result<(), Fail> {
     let mut keep = keep_of(rt.alloc(), b"", &[])?;
-    let behind = 2 * MOST_RANGES as u64;
-    for i in 1..=MOST_RANGES as u64 {
+    let behind = 2 * MAX_RANGES as u64;
+    for i in 1..=MAX_RANGES as u64 {
         keep.store(behind - 2 * i, b"x")?;
     }
     let Err(KeepError::RangesFull { kept }) = keep.store(behind, b"x") else {
         panic!(rt; "one range more is kept");
     };
     assert_eq!(rt; kept, 16_384);
-    assert_eq!(rt; keep.ranges().count(), MOST_RANGES);
+    assert_eq!(rt; keep.ranges().count(), MAX_RANGES);
     assert_eq!(rt; keep.store(1, b"x"), Ok(1));
-    assert_eq!(rt; keep.ranges().count(), MOST_RANGES - 1);
+    assert_eq!(rt; keep.ranges().count(), MAX_RANGES - 1);
     // the first sync, and a write and a sync for each byte
-    assert_eq!(rt; keep.into_drive().count(), 1 + 2 * (MOST_RANGES + 1));
+    assert_eq!(rt; keep.into_drive().count(), 1 + 2 * (MAX_RANGES + 1));
     Ok(())
 }

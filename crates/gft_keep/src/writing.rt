@@ -1,7 +1,7 @@
 ghost use Rattle.std.specs.Prelude.{◌≡◌, ◌+◌, ◌≤◌, length, IfOk, OnOk};
-ghost use Rattle.gft_base.specs.Causes.{HasCause};
-ghost use Rattle.gft_drive.specs.Drive.{Goes, Reads};
-ghost use Rattle.gft_drive.specs.declared.drive.Part.TheVariants.{Bytes};
+ghost use Rattle.gft_base.specs.Words.{HasCause};
+ghost use Rattle.gft_drive.specs.Words.{Goes, Reads};
+ghost use Rattle.gft_drive.specs.declared.Part.TheVariants.{Bytes};
 ghost use Rattle.gft_keep.specs.Holds.{Holds};
 ghost use Rattle.gft_keep.specs.Store.{Stores, IsNewCount};
 

@@ -1,4 +1,4 @@
-pub mod FieldLemmas
-pub mod ValueLemmas
-pub mod PerfLemmas
-pub mod RangeLemmas
+mod FieldLemmas
+mod ValueLemmas
+mod PerfLemmas
+mod RangeLemmas

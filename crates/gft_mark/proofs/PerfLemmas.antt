@@ -4,13 +4,12 @@ use Rattle.std.specs.Prelude.{codes, decimal}
 use Rattle.std.specs.List.{list_all}
 use Rattle.std.proofs.lemmas.Fmt.{length-decimal-le}
 use Rattle.std.proofs.lemmas.List.Elements.{All-append, All-cons}
-use Rattle.gft_base.specs.Number.{IsNumber}
-use Rattle.gft_base.specs.Parts.{Lacks}
-use Rattle.gft_base.proofs.NumberLemmas.{IsNumber-decimal, IsNumber-one}
-use Rattle.gft_text.proofs.LackLemmas.{literal_lacks, decimal_lacks}
-use Rattle.gft_reply.specs.declared.reply.Reply.{Reply}
-use Rattle.gft_reply.specs.Written.{Fits, IsWritable, written_line}
-use Rattle.gft_reply.proofs.FitsLemmas.{writable}
+use Rattle.gft_base.specs.Words.{IsNumber, Lacks}
+use Rattle.gft_base.proofs.Lemmas.{IsNumber-decimal, IsNumber-one}
+use Rattle.gft_text.proofs.Lemmas.{literal_lacks, decimal_lacks}
+use Rattle.gft_reply.specs.declared.Reply.{Reply}
+use Rattle.gft_reply.specs.Words.{Fits, IsWritable, written_line}
+use Rattle.gft_reply.proofs.Lemmas.{writable}
 use Rattle.gft_mark.specs.declared.perf.Perf.{Perf}
 use Rattle.gft_mark.specs.Fields.{BeginsApart, IsShortNumber, IsTimestamp, States}
 use Rattle.gft_mark.specs.Markers.{FitsPerf, IsPerfMarker, perf_lines, timestamp_text}

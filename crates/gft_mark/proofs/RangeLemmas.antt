@@ -2,20 +2,18 @@
 use Rattle.std.proofs.Common.{◌≡◌, ℕ, ◌+◌, ◌*◌, ◌<◌, ◌≤◌, eqb, true, false, List, [], ◌∷◌, ◌++◌, length, length-append, get_or, refl, sym, ap, subst, inl, inr, ◌∙◌, lit<, arith}
 use Rattle.std.specs.Prelude.{codes}
 use Rattle.std.proofs.lemmas.List.{append_cancel_left}
-use Rattle.gft_range.specs.declared.range.Range.{Range}
+use Rattle.gft_range.specs.declared.Range.{Range}
 use Rattle.std.specs.List.{AllByRecursion, AllZip, join_with_byte}
 use Rattle.std.proofs.lemmas.List.Elements.{All-append, All-cons, All-nil}
 use Rattle.std.proofs.lemmas.List.Splits.{join_with_byte-slice_split}
-use Rattle.gft_base.specs.Number.{IsNumber}
-use Rattle.gft_base.specs.Parts.{Lacks, parts_at}
-use Rattle.gft_base.proofs.NumberLemmas.{digits_apart}
-use Rattle.gft_base.proofs.ZipLemmas.{AllZip-length}
-use Rattle.gft_range.specs.ListText.{IsItem, IsList, items_of}
-use Rattle.gft_range.proofs.ListLemmas.{IsList-one}
-use Rattle.gft_reply.specs.declared.reply.Reply.{Reply}
-use Rattle.gft_reply.specs.Written.{Fits}
-use Rattle.gft_reply.proofs.FitsLemmas.{writable}
-use Rattle.gft_text.proofs.LackLemmas.{literal_lacks}
+use Rattle.gft_base.specs.Words.{IsNumber, Lacks, parts_at}
+use Rattle.gft_base.proofs.Lemmas.{digits_apart, AllZip-length}
+use Rattle.gft_range.specs.Words.{IsItem, IsList, items_of}
+use Rattle.gft_range.proofs.Lemmas.{IsList-one}
+use Rattle.gft_reply.specs.declared.Reply.{Reply}
+use Rattle.gft_reply.specs.Words.{Fits}
+use Rattle.gft_reply.proofs.Lemmas.{writable}
+use Rattle.gft_text.proofs.Lemmas.{literal_lacks}
 use Rattle.gft_mark.specs.Markers.{IsRangeMarker}
 
 -- no reply is two restart markers

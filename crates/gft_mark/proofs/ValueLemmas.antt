@@ -4,10 +4,8 @@ use Rattle.std.specs.Fmt.{decimal}
 use Rattle.std.specs.Option.{MatchOption}
 use Rattle.std.proofs.lemmas.List.Splits.{slice_split_none}
 use Rattle.std.proofs.lemmas.Fmt.{decimal_digit}
-use Rattle.gft_base.specs.Number.{AreDigits, IsNumber}
-use Rattle.gft_base.specs.Parts.{parts_at}
-use Rattle.gft_base.proofs.NumberLemmas.{IsNumber-decimal, IsNumber-one, digits_apart, number_part}
-use Rattle.gft_base.proofs.PartsLemmas.{part_alone, parts_join, parts_some}
+use Rattle.gft_base.specs.Words.{AreDigits, IsNumber, parts_at}
+use Rattle.gft_base.proofs.Lemmas.{IsNumber-decimal, IsNumber-one, digits_apart, number_part, part_alone, parts_join, parts_some}
 use Rattle.gft_mark.specs.Fields.{AreSeconds, AreTenths, BeginsApart, IsFraction, IsShortNumber, IsTimestamp}
 use Rattle.gft_mark.specs.Markers.{timestamp_text}
 

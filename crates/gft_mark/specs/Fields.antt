@@ -1,8 +1,7 @@
 -- How a line of a performance marker states a value (GFD.20, performance markers).
 use Rattle.std.specs.Prelude.{◌≡◌, ◌≢◌, ℕ, ◌+◌, ◌-◌, ◌*◌, ◌<◌, ◌^◌, List, [], ◌∷◌, ◌++◌, slice_index}
 use Rattle.std.specs.List.{AllByRecursion}
-use Rattle.gft_base.specs.Number.{AreDigits, IsNumber}
-use Rattle.gft_base.specs.Parts.{parts_at}
+use Rattle.gft_base.specs.Words.{AreDigits, IsNumber, parts_at}
 
 -- nothing but spaces
 abbrev pub AreSpaces : List ℕ → Type 0

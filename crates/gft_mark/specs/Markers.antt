@@ -1,13 +1,13 @@
 -- Which replies are markers, and how markers are written (GFD.20: restart markers and performance markers).
 use Rattle.std.specs.Prelude.{◌≡◌, ℕ, ◌/◌, ◌%◌, ◌<◌, ◌^◌, List, [], ◌∷◌, ◌++◌, length, codes, decimal}
-use Rattle.gft_base.specs.Number.{IsNumber}
-use Rattle.gft_range.specs.declared.range.Range.{Range}
-use Rattle.gft_range.specs.ListText.{IsList, list_text}
+use Rattle.gft_base.specs.Words.{IsNumber}
+use Rattle.gft_range.specs.declared.Range.{Range}
+use Rattle.gft_range.specs.Words.{IsList, list_text}
 use Rattle.gft_mark.specs.Fields.{IsShortNumber, IsTimestamp, States}
 use Rattle.gft_mark.specs.declared.marker.Marker.{Marker}
 use Rattle.gft_mark.specs.declared.marker.Marker.TheVariants as marker
 use Rattle.gft_mark.specs.declared.perf.Perf.{Perf}
-use Rattle.gft_reply.specs.declared.reply.Reply.{Reply}
+use Rattle.gft_reply.specs.declared.Reply.{Reply}
 
 -- one line of code 111: its name, and a list that names at least one offset
 pub record IsRangeMarker (reply : Reply) (ranges : List Range) : Type 0 where

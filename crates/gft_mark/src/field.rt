@@ -1,5 +1,5 @@
 ghost use Rattle.std.specs.Prelude.{◌≡◌, ◌<◌, ℕ, List, [], length, slice_index_or, MatchOption};
-ghost use Rattle.gft_base.specs.Number.{IsNumber};
+ghost use Rattle.gft_base.specs.Words.{IsNumber};
 ghost use Rattle.gft_mark.specs.Fields.{IsField, IsShortNumber, IsTimestamp, Skips, States};
 
 use crate::value::{read_short, read_tenths};

@@ -1,8 +1,8 @@
 //! What holds of every marker. A law is a function with an empty body; whoever calls it knows it.
 
 ghost use Rattle.std.specs.Prelude.{◌≡◌, List};
-ghost use Rattle.gft_range.specs.declared.range.Range.{Range};
-ghost use Rattle.gft_reply.specs.declared.reply.Reply.{Reply};
+ghost use Rattle.gft_range.specs.declared.Range.{Range};
+ghost use Rattle.gft_reply.specs.declared.Reply.{Reply};
 ghost use Rattle.gft_mark.specs.Markers.{IsPerfMarker, IsRangeMarker};
 ghost use Rattle.gft_mark.specs.declared.perf.Perf.{Perf};
 

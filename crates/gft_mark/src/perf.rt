@@ -1,7 +1,7 @@
 ghost use Rattle.std.specs.Prelude.{◌≡◌, IfOk, MatchOption};
 ghost use Rattle.gft_mark.specs.Markers.{IsPerfMarker, perf_lines};
 ghost use Rattle.gft_mark.specs.declared.perf.Perf.{Perf};
-ghost use Rattle.gft_reply.specs.Written.{Fits};
+ghost use Rattle.gft_reply.specs.Words.{Fits};
 
 use crate::field::{line_at, stated_number, stated_short, stated_tenths};
 use gft_base::{OutOfMemory, strip_front};

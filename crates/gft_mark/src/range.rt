@@ -1,12 +1,12 @@
 ghost use Rattle.std.specs.Prelude.{◌≡◌, ◌<◌, ℕ, List, [], ◌∷◌, Err, IfOk, length, take};
-ghost use Rattle.gft_range.specs.declared.range.Range.{Range};
+ghost use Rattle.gft_range.specs.declared.Range.{Range};
 ghost use Rattle.gft_mark.specs.Markers.{IsRangeMarker, range_marker_text};
-ghost use Rattle.gft_reply.specs.Written.{Fits};
+ghost use Rattle.gft_reply.specs.Words.{Fits};
 
 use crate::field::line_at;
 use crate::marker::MarkerError;
 use gft_base::{OutOfMemory, strip_front};
-use gft_range::{ListError, MOST_ITEMS, RangeSet};
+use gft_range::{ListError, MAX_ITEMS, RangeSet};
 use gft_reply::{Reply, ReplyLines};
 use std::alloc::Global;
 
@@ -22,7 +22,7 @@ pub fn range_marker(alloc: Global, set: &RangeSet) -> Result<Reply, OutOfMemory>
     ensures read_again { IfOk result (λ reply. IsRangeMarker reply (take 512 set.now.ranges)) }
     ensures fits { IfOk result Fits }
 {
-    let named = set.first(MOST_ITEMS)?;
+    let named = set.first(MAX_ITEMS)?;
     let list = named.write_list()?;
     let mut text = Vec::from_slice(alloc, b"Range Marker ")?;
     text.extend_from_slice(&list)?;

@@ -1,7 +1,6 @@
 ghost use Rattle.std.specs.Prelude.{◌≡◌, ℕ, ◌<◌, MatchOption, ◌↔◌, IsTrue};
-ghost use Rattle.gft_base.specs.Number.{AreDigits};
+ghost use Rattle.gft_base.specs.Words.{AreDigits, parts_left};
 ghost use Rattle.std.specs.Option.{option_copied};
-ghost use Rattle.gft_base.specs.Parts.{parts_left};
 ghost use Rattle.gft_mark.specs.Fields.{AreTenths, IsFraction, IsShortNumber, IsTimestamp};
 
 use gft_base::{read_decimal, split_first};

@@ -1,5 +1,7 @@
-pub mod ListLemmas
-pub mod PartLemmas
-pub mod RetrLemmas
-pub mod SettingLemmas
-pub mod TargetsLemmas
+mod ListLemmas
+mod PartLemmas
+mod RetrLemmas
+mod SettingLemmas
+mod TargetsLemmas
+-- what the proofs of other crates may cite
+pub mod Lemmas

@@ -4,15 +4,13 @@ use Rattle.std.specs.Fmt.{decimal}
 use Rattle.std.specs.Option.{is_some}
 use Rattle.std.specs.List.{position}
 use Rattle.std.proofs.lemmas.List.Splits.{slice_split_none}
-use Rattle.gft_base.specs.Parts.{parts_at, Lacks}
-use Rattle.gft_base.specs.Number.{IsNumber}
-use Rattle.gft_base.proofs.PartsLemmas.{part_alone, parts_join, position-None, position-none_from}
-use Rattle.gft_base.proofs.NumberLemmas.{IsNumber-decimal}
+use Rattle.gft_base.specs.Words.{parts_at, Lacks, IsNumber}
+use Rattle.gft_base.proofs.Lemmas.{part_alone, parts_join, position-None, position-none_from, IsNumber-decimal}
 use Rattle.gft_opts.specs.Word.{IsWord}
 use Rattle.gft_opts.specs.Part.{FitsEret, FitsEsto, IsEret, IsEsto, IsOffset, IsPath, eret_text, esto_text}
 use Rattle.gft_opts.specs.declared.part.Eret.{Eret}
 use Rattle.gft_opts.specs.declared.part.Esto.{Esto}
-use Rattle.gft_text.proofs.LackLemmas.{literal_lacks, decimal_lacks}
+use Rattle.gft_text.proofs.Lemmas.{literal_lacks, decimal_lacks}
 
 -- no place of a space is found
 pub no_space : (path : List ℕ) (found : Option ℕ) (none : Bool) → found ≡ position (λ b. eqb b 32) path → is_some found ≡ not none → none ≡ true → Lacks 32 path

@@ -7,9 +7,8 @@ use Rattle.std.specs.List.{AllZip, AllByRecursion, position, flat_map, before_fi
 use Rattle.std.specs.Option.{option_to_list}
 use Rattle.std.proofs.lemmas.Grind.{flat_map-append}
 use Rattle.std.proofs.lemmas.List.{append-nil}
-use Rattle.gft_base.specs.Parts.{parts_at}
-use Rattle.gft_base.proofs.PartsLemmas.{parts_found, parts_alone, parts_some, parts_join, place_found, place_none}
-use Rattle.gft_base.proofs.ZipLemmas.{AllZip-one, AllZip-middle, AllZip-push}
+use Rattle.gft_base.specs.Words.{parts_at}
+use Rattle.gft_base.proofs.Lemmas.{parts_found, parts_alone, parts_some, parts_join, place_found, place_none, AllZip-one, AllZip-middle, AllZip-push}
 use Rattle.gft_layout.specs.declared.Layout.{Layout}
 use Rattle.gft_layout.specs.declared.Layout.TheVariants as layouts
 use Rattle.gft_opts.specs.Setting.{IsSetting, setting_text}

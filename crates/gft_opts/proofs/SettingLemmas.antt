@@ -4,25 +4,21 @@ use Rattle.std.specs.Fmt.{decimal}
 use Rattle.std.specs.List.{AllZip}
 use Rattle.std.proofs.lemmas.Bool.{ne_eqb}
 use Rattle.std.proofs.lemmas.List.Elements.{All-cons}
-use Rattle.gft_base.specs.Parts.{parts_at, Lacks}
-use Rattle.gft_base.specs.Number.{IsNumber, AreDigits}
-use Rattle.gft_base.specs.declared.limit.TheConstants.{LIMIT}
-use Rattle.gft_base.proofs.PartsLemmas.{part_alone}
-use Rattle.gft_base.proofs.NumberLemmas.{IsNumber-one, IsNumber-decimal, number_part, parts-decimals}
-use Rattle.gft_base.proofs.ZipLemmas.{AllZip-one}
-use Rattle.gft_text.specs.Table.{folded, same_bytes, IsAbsent}
-use Rattle.gft_text.specs.declared.table.Entry.{Entry}
-use Rattle.gft_text.proofs.TableLemmas.{texts_apart}
+use Rattle.gft_base.specs.Words.{parts_at, Lacks, IsNumber, AreDigits}
+use Rattle.gft_base.specs.declared.TheConstants.{LIMIT}
+use Rattle.gft_base.proofs.Lemmas.{part_alone, IsNumber-one, IsNumber-decimal, number_part, parts-decimals, AllZip-one}
+use Rattle.gft_text.specs.Words.{folded, same_bytes, IsAbsent}
+use Rattle.gft_text.specs.declared.Entry.{Entry}
+use Rattle.gft_text.proofs.Lemmas.{texts_apart, literal_lacks, lacks_joined}
 use Rattle.gft_opts.specs.Word.{IsWord}
 use Rattle.gft_opts.specs.Setting.{IsKey, IsLayoutName, IsParallelism, IsSetting, key_in, value_in, key_of, key_text, name_text, setting_text, value_text}
-use Rattle.gft_opts.specs.declared.setting.TheConstants.{MOST_PARALLEL}
+use Rattle.gft_opts.specs.declared.TheConstants.{MAX_PARALLEL}
 use Rattle.gft_opts.specs.declared.setting.Key.{Key}
 use Rattle.gft_opts.specs.declared.setting.Key.TheVariants as keys
 use Rattle.gft_opts.specs.declared.setting.LayoutName.{LayoutName}
 use Rattle.gft_opts.specs.declared.setting.LayoutName.TheVariants.{Partitioned, Blocked}
 use Rattle.gft_opts.specs.declared.setting.Setting.{Setting}
 use Rattle.gft_opts.specs.declared.setting.Setting.TheVariants.{StripeLayout, BlockSize, Parallelism}
-use Rattle.gft_text.proofs.LackLemmas.{literal_lacks, lacks_joined}
 
 -- ---- what is no entry of a table
 
@@ -52,7 +48,7 @@ pub record Three (start least most : List ℕ) (n : ℕ) : Type 0 where
   pub some : 1 ≤ low
   pub above : low ≤ n
   pub below : n ≤ high
-  pub limited : high ≤ MOST_PARALLEL
+  pub limited : high ≤ MAX_PARALLEL
 
 pub three_numbers : (text start a least most : List ℕ) (n : ℕ) → parts_at 44 text ≡ start ∷ parts_at 44 a → parts_at 44 a ≡ least ∷ parts_at 44 most → IsParallelism text n → Three start least most n
 three_numbers text start a least most n one two is =
@@ -81,7 +77,7 @@ three_read text start a least most n one two is = record {
 }
 
 -- the numbers that were read are in order
-pub three_ordered : (start least most : List ℕ) (n s l m : ℕ) → Three start least most n → IsNumber start s → IsNumber least l → IsNumber most m → (1 ≤ l) × (l ≤ s) × (s ≤ m) × (m ≤ MOST_PARALLEL)
+pub three_ordered : (start least most : List ℕ) (n s l m : ℕ) → Three start least most n → IsNumber start s → IsNumber least l → IsNumber most m → (1 ≤ l) × (l ≤ s) × (s ≤ m) × (m ≤ MAX_PARALLEL)
 three_ordered start least most n s l m three is_s is_l is_m =
     let start_is = IsNumber-one start n s three.start_is is_s in
     let least_is = IsNumber-one least three.low l three.least_is is_l in
@@ -124,7 +120,7 @@ IsSetting-one item (Parallelism m) (Parallelism n) a b = ap (λ (x : ℕ). Paral
 abbrev pub FitsSetting : Setting → Type 0
 FitsSetting (StripeLayout name) = Unit {0}
 FitsSetting (BlockSize block) = (1 ≤ block) × (block ≤ LIMIT)
-FitsSetting (Parallelism start) = (1 ≤ start) × (start ≤ MOST_PARALLEL)
+FitsSetting (Parallelism start) = (1 ≤ start) × (start ≤ MAX_PARALLEL)
 
 pub setting_fits : (item : List ℕ) (setting : Setting) → IsSetting item setting → FitsSetting setting
 setting_fits item (StripeLayout name) is = tt

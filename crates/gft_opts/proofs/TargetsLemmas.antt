@@ -3,13 +3,11 @@ use Rattle.std.proofs.Common.{◌≡◌, ℕ, ◌/◌, ◌%◌, ◌<◌, ◌≤�
 use Rattle.std.specs.Fmt.{decimal}
 use Rattle.std.specs.List.{AllZip, AllByRecursion, flat_map, join_with_byte}
 use Rattle.std.proofs.lemmas.List.{append-nil}
-use Rattle.gft_base.specs.Parts.{parts_at, Lacks}
-use Rattle.gft_base.proofs.PartsLemmas.{parts_some}
-use Rattle.gft_base.proofs.ZipLemmas.{AllZip-length, AllZip-one}
-use Rattle.gft_text.specs.HostPort.{IsByte, IsHostPort, FitsHostPort, host_port_text, numbers_of}
-use Rattle.gft_text.specs.declared.host_port.HostPort.{HostPort}
-use Rattle.gft_text.proofs.HostPortLemmas.{IsHostPort-text, IsHostPort-one, two_more}
-use Rattle.gft_text.proofs.LackLemmas.{decimal_lacks, lacks_joined}
+use Rattle.gft_base.specs.Words.{parts_at, Lacks}
+use Rattle.gft_base.proofs.Lemmas.{parts_some, AllZip-length, AllZip-one}
+use Rattle.gft_text.specs.Words.{IsByte, IsHostPort, FitsHostPort, host_port_text, numbers_of}
+use Rattle.gft_text.specs.declared.HostPort.{HostPort}
+use Rattle.gft_text.proofs.Lemmas.{IsHostPort-text, IsHostPort-one, two_more, decimal_lacks, lacks_joined}
 use Rattle.gft_opts.specs.Targets.{FitsTargets, IsTargets, targets_text}
 use Rattle.gft_opts.proofs.ListLemmas.{parts_joined}
 

@@ -5,3 +5,4 @@ pub mod Setting
 pub mod Settings
 pub mod Targets
 pub mod Word
+pub mod Words

@@ -1,9 +1,8 @@
 -- Parts of a file in text (GFD.20): ERET's `P offset size name`, and ESTO's `A offset name`.
 use Rattle.std.specs.Prelude.{◌≡◌, ℕ, ◌<◌, ◌≤◌, ◌^◌, List, [], ◌∷◌, codes, decimal, length}
 use Rattle.std.specs.List.{join_with_byte}
-use Rattle.gft_base.specs.Number.{IsNumber}
-use Rattle.gft_base.specs.Parts.{parts_at, Lacks}
-use Rattle.gft_base.specs.declared.limit.TheConstants.{LIMIT}
+use Rattle.gft_base.specs.Words.{IsNumber, parts_at, Lacks}
+use Rattle.gft_base.specs.declared.TheConstants.{LIMIT}
 use Rattle.gft_opts.specs.Word.{IsWord}
 use Rattle.gft_opts.specs.declared.part.Eret.{Eret}
 use Rattle.gft_opts.specs.declared.part.Esto.{Esto}

@@ -2,13 +2,13 @@
 use Rattle.std.specs.Prelude.{◌≡◌, ℕ, ◌≤◌, List, [], ◌∷◌, ◌++◌, Option, Some, None}
 use Rattle.std.specs.List.{AllZip, flat_map}
 use Rattle.std.specs.Option.{option_to_list}
-use Rattle.gft_base.specs.Parts.{parts_at}
-use Rattle.gft_base.specs.declared.limit.TheConstants.{LIMIT}
+use Rattle.gft_base.specs.Words.{parts_at}
+use Rattle.gft_base.specs.declared.TheConstants.{LIMIT}
 use Rattle.gft_layout.specs.declared.Layout.{Layout}
 use Rattle.gft_layout.specs.declared.Layout.TheVariants as layouts
 use Rattle.gft_opts.specs.Setting.{IsSetting, setting_text}
 use Rattle.gft_opts.specs.declared.retr.RetrOptions.{RetrOptions}
-use Rattle.gft_opts.specs.declared.setting.TheConstants.{MOST_PARALLEL}
+use Rattle.gft_opts.specs.declared.TheConstants.{MAX_PARALLEL}
 use Rattle.gft_opts.specs.declared.setting.LayoutName.{LayoutName}
 use Rattle.gft_opts.specs.declared.setting.LayoutName.TheVariants as names
 use Rattle.gft_opts.specs.declared.setting.Setting.{Setting}
@@ -93,7 +93,7 @@ FitsLayout (Some (layouts.Blocked block)) = (1 ≤ block) × (block ≤ LIMIT)
 
 abbrev pub FitsParallel : Option ℕ → Type 0
 FitsParallel None = Unit {0}
-FitsParallel (Some start) = (1 ≤ start) × (start ≤ MOST_PARALLEL)
+FitsParallel (Some start) = (1 ≤ start) × (start ≤ MAX_PARALLEL)
 
 -- the options have a text
 pub record FitsRetr (options : RetrOptions) : Type 0 where

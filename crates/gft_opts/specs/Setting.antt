@@ -1,11 +1,10 @@
 -- One option of RETR, `key=value` (GFD.20, OPTS RETR).
 use Rattle.std.specs.Prelude.{ℕ, ◌≤◌, ◌==◌, ◌++◌, List, [], ◌∷◌, codes, decimal}
 use Rattle.std.specs.List.{AllZip, before_first, after_first}
-use Rattle.gft_base.specs.Number.{IsNumber}
-use Rattle.gft_base.specs.Parts.{parts_at}
-use Rattle.gft_base.specs.declared.limit.TheConstants.{LIMIT}
+use Rattle.gft_base.specs.Words.{IsNumber, parts_at}
+use Rattle.gft_base.specs.declared.TheConstants.{LIMIT}
 use Rattle.gft_opts.specs.Word.{IsWord}
-use Rattle.gft_opts.specs.declared.setting.TheConstants.{MOST_PARALLEL}
+use Rattle.gft_opts.specs.declared.TheConstants.{MAX_PARALLEL}
 use Rattle.gft_opts.specs.declared.setting.Key.{Key}
 use Rattle.gft_opts.specs.declared.setting.Key.TheVariants as keys
 use Rattle.gft_opts.specs.declared.setting.LayoutName.{LayoutName}
@@ -49,7 +48,7 @@ pub record IsParallelism (text : List ℕ) (start : ℕ) : Type 0 where
   pub some : 1 ≤ least
   pub above : least ≤ start
   pub below : start ≤ most
-  pub limited : most ≤ MOST_PARALLEL
+  pub limited : most ≤ MAX_PARALLEL
 
 -- the key of a setting
 abbrev pub key_of : Setting → Key

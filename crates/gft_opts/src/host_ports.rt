@@ -2,7 +2,7 @@ ghost use Rattle.std.specs.Prelude.{◌≡◌, ◌++◌, ◌∷◌, ◌↔◌, [
 ghost use Rattle.gft_opts.specs.Targets.{FitsTargets};
 
 use crate::laws::host_port_fits;
-use crate::targets::MOST_TARGETS;
+use crate::MAX_TARGETS;
 use gft_base::OutOfMemory;
 use gft_text::HostPort;
 use std::alloc::Global;
@@ -17,8 +17,8 @@ pub struct HostPorts {
 impl Model for HostPorts {
     ghost use Rattle.std.specs.Prelude.{List};
     ghost use Rattle.std.specs.List.{AllByRecursion};
-    ghost use Rattle.gft_text.specs.HostPort.{FitsHostPort};
-    ghost use Rattle.gft_text.specs.declared.host_port.HostPort.{HostPort};
+    ghost use Rattle.gft_text.specs.Words.{FitsHostPort};
+    ghost use Rattle.gft_text.specs.declared.HostPort.{HostPort};
 
     ghost Value = { List HostPort };
 
@@ -81,6 +81,6 @@ impl HostPorts {
         ensures { IsTrue result ↔ FitsTargets self.now }
     {
         let count = self.addresses.len();
-        0 < count && count <= MOST_TARGETS
+        0 < count && count <= MAX_TARGETS
     }
 }

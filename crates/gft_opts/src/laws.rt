@@ -1,8 +1,8 @@
 //! What holds of every text. A law is a function with an empty body; whoever calls it knows it.
 
 ghost use Rattle.std.specs.Prelude.{◌≡◌, ℕ, List};
-ghost use Rattle.gft_text.specs.HostPort.{FitsHostPort};
-ghost use Rattle.gft_text.specs.declared.host_port.HostPort.{HostPort};
+ghost use Rattle.gft_text.specs.Words.{FitsHostPort};
+ghost use Rattle.gft_text.specs.declared.HostPort.{HostPort};
 ghost use Rattle.gft_opts.specs.Retr.{FitsRetr, IsRetr, retr_text};
 ghost use Rattle.gft_opts.specs.Targets.{FitsTargets, IsTargets, targets_text};
 ghost use Rattle.gft_opts.specs.Part.{FitsEret, FitsEsto, IsEret, IsEsto, eret_text, esto_text};

@@ -5,7 +5,7 @@ ghost use Rattle.gft_opts.specs.declared.error.OptsError.TheVariants as errors;
 ghost use Rattle.gft_opts.specs.declared.retr.RetrOptions.{RetrOptions};
 
 use crate::error::OptsError;
-use crate::setting::MOST_PARALLEL;
+use crate::MAX_PARALLEL;
 use crate::settings::read_settings;
 use gft_base::{LIMIT, OutOfMemory};
 use gft_layout::Layout;
@@ -66,7 +66,7 @@ fn parallel_fits(parallel: Option<u16>) -> bool
     ensures { IsTrue result ↔ FitsParallel parallel }
 {
     match parallel {
-        Some(start) => 1 <= start && start <= MOST_PARALLEL,
+        Some(start) => 1 <= start && start <= MAX_PARALLEL,
         None => true,
     }
 }

@@ -3,13 +3,11 @@ ghost use Rattle.gft_opts.specs.Setting.{IsBlockSize, IsKey, IsLayoutName, IsPar
 ghost use Rattle.gft_opts.specs.declared.setting.Key.{Key};
 ghost use Rattle.gft_opts.specs.declared.setting.LayoutName.{LayoutName};
 ghost use Rattle.gft_opts.specs.declared.setting.Setting.{Setting};
-ghost use Rattle.gft_opts.specs.declared.setting.TheConstants.{MOST_PARALLEL};
+ghost use Rattle.gft_opts.specs.declared.TheConstants.{MAX_PARALLEL};
 
+use crate::MAX_PARALLEL;
 use gft_base::{LIMIT, read_decimal, split_first, split_word};
 use gft_text::{Entry, Table};
-
-/// The most data connections of one stripe.
-pub const MOST_PARALLEL: u16 = 64;
 
 /// What an option is called.
 #[derive(Clone, Copy)]
@@ -132,7 +130,7 @@ fn read_parallelism(text: &[u8]) -> Option<u16>
 
 fn are_ordered(least: u64, start: u64, most: u64) -> bool
     ensures { IsTrue result
-        ↔ ((1 ≤ least) × (least ≤ start) × (start ≤ most) × (most ≤ MOST_PARALLEL)) }
+        ↔ ((1 ≤ least) × (least ≤ start) × (start ≤ most) × (most ≤ MAX_PARALLEL)) }
 {
-    1 <= least && least <= start && start <= most && most <= u64::from(MOST_PARALLEL)
+    1 <= least && least <= start && start <= most && most <= u64::from(MAX_PARALLEL)
 }

@@ -1,16 +1,14 @@
 ghost use Rattle.std.specs.Prelude.{◌≡◌, List, IfOk, IfErr};
-ghost use Rattle.gft_text.specs.declared.host_port.HostPort.{HostPort};
+ghost use Rattle.gft_text.specs.declared.HostPort.{HostPort};
 ghost use Rattle.gft_opts.specs.Refusal.{Refuses};
 ghost use Rattle.gft_opts.specs.Targets.{FitsTargets, IsTargets, targets_text};
 
+use crate::MAX_TARGETS;
 use crate::error::OptsError;
 use crate::host_ports::HostPorts;
 use gft_base::{OutOfMemory, count_parts, split_first};
 use gft_text::{read_host_port, write_host_port};
 use std::alloc::Global;
-
-/// The most targets that one command names: as many as a transfer has stripes.
-pub const MOST_TARGETS: usize = 16;
 
 /// Reads the targets of a transfer (GFD.20, SPOR): 1 to 16 addresses `h1,h2,h3,h4,p1,p2`, with one
 /// space between them. It allocates once, for all of them. `BadParameter` where the text is none.
@@ -20,7 +18,7 @@ pub fn read_targets(alloc: Global, text: &[u8]) -> Result<HostPorts, OptsError>
         (Refuses ((targets : List HostPort) → ¬ IsTargets text.now targets)) }
 {
     let count = count_parts(text, b' ');
-    if count > MOST_TARGETS {
+    if count > MAX_TARGETS {
         return Err(OptsError::BadParameter);
     }
     let mut targets = HostPorts::with_room(alloc, count)?;

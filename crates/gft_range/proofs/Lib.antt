@@ -1,10 +1,12 @@
-pub mod FirstGapLemmas
-pub mod GapLemmas
-pub mod JoinLemmas
-pub mod ListLemmas
-pub mod NormalLemmas
-pub mod OffsetLemmas
-pub mod SearchLemmas
-pub mod TouchLemmas
-pub mod UnionLemmas
-pub mod WholeLemmas
+mod FirstGapLemmas
+mod GapLemmas
+mod JoinLemmas
+mod ListLemmas
+mod NormalLemmas
+mod OffsetLemmas
+mod SearchLemmas
+mod TouchLemmas
+mod UnionLemmas
+mod WholeLemmas
+-- what the proofs of other crates may cite
+pub mod Lemmas

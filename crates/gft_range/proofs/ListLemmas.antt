@@ -7,11 +7,8 @@ use Rattle.std.proofs.lemmas.List.Elements.{All-cons, All-append}
 use Rattle.std.proofs.lemmas.List.Splits.{slice_split_none}
 use Rattle.std.proofs.lemmas.List.Sums.{sum_by_push}
 use Rattle.std.proofs.lemmas.List.{append-nil}
-use Rattle.gft_base.specs.Number.{IsNumber}
-use Rattle.gft_base.specs.Parts.{parts_at, parts_left}
-use Rattle.gft_base.proofs.PartsLemmas.{part_alone, parts_some, parts_length, parts_join}
-use Rattle.gft_base.proofs.NumberLemmas.{number_part, IsNumber-one, IsNumber-decimal, digits_apart}
-use Rattle.gft_base.proofs.ZipLemmas.{AllZip-push, AllZip-one, AllZip-length, AllZip-middle}
+use Rattle.gft_base.specs.Words.{IsNumber, parts_at, parts_left}
+use Rattle.gft_base.proofs.Lemmas.{part_alone, parts_some, parts_length, parts_join, number_part, IsNumber-one, IsNumber-decimal, digits_apart, AllZip-push, AllZip-one, AllZip-length, AllZip-middle}
 use Rattle.gft_range.specs.declared.range.Range.{Range}
 use Rattle.gft_range.specs.Range.{InRange, HasOffset}
 use Rattle.gft_range.specs.Normal.{IsNormal}

@@ -1,8 +1,7 @@
 -- Lists of ranges in text, as the parameter of REST in extended block mode (GFD.20).
 use Rattle.std.specs.Prelude.{◌≡◌, ℕ, ◌+◌, ◌<◌, ◌^◌, ◌≤◌, ◌⊎◌, ◌↔◌, ◌++◌, List, [], ◌∷◌, length, decimal}
 use Rattle.std.specs.List.{AllZip, AllByRecursion, sum_by, flat_map}
-use Rattle.gft_base.specs.Number.{IsNumber}
-use Rattle.gft_base.specs.Parts.{parts_at}
+use Rattle.gft_base.specs.Words.{IsNumber, parts_at}
 use Rattle.gft_range.specs.declared.range.Range.{Range}
 use Rattle.gft_range.specs.Range.{HasOffset}
 use Rattle.gft_range.specs.Normal.{IsNormal}

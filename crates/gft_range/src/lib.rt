@@ -17,6 +17,12 @@ mod whole;
 
 pub use gaps::Missing;
 pub use laws::{lists_have_one_value, one_normal_list};
-pub use list::{ListError, MOST_ITEMS};
+pub use list::ListError;
 pub use range::Range;
 pub use set::RangeSet;
+
+/// The most items of a list that is read, and the most ranges of one that is written.
+pub const MAX_ITEMS: usize = 512;
+
+// The definitions of all crates cite the name: its number is pinned here.
+const _: () = prove!(MAX_ITEMS == 512);

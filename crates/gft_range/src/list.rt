@@ -6,14 +6,12 @@ ghost use Rattle.gft_range.specs.ListText.{IsItem, IsList, HasNoList, FirstBadAt
 ghost use Rattle.gft_range.specs.Adding.{AddsItems};
 ghost use Rattle.gft_range.specs.declared.range.Range.{Range};
 
+use crate::MAX_ITEMS;
 use crate::range::Range;
 use crate::set::RangeSet;
 use gft_base::{OutOfMemory, count_parts, read_decimal, split_first};
 use std::alloc::Global;
 use thiserror::Error;
-
-/// The most items of a list that is read, and the most ranges of one that is written.
-pub const MOST_ITEMS: usize = 512;
 
 /// Why a text is no list of ranges.
 #[derive(Clone, Copy, Debug, PartialEq, Eq, Error)]
@@ -52,7 +50,7 @@ impl RangeSet {
         ensures normal { IfOk result (λ set. IsNormal set.ranges) }
     {
         let items = count_parts(text, b',');
-        if items > MOST_ITEMS {
+        if items > MAX_ITEMS {
             return Err(ListError::TooMany { items });
         }
         let mut set = RangeSet::new(alloc);

@@ -138,7 +138,7 @@ fn a_list_has_at_most_512_items(rt: HostRuntime) -> Result<(), Fail> {
 #[test]
 fn a_set_is_written_as_its_normal_list(rt: HostRuntime) -> Result<(), Fail> {
     let set = set_of(&rt, rt.alloc(), &[range(7, 9), range(0, 5)])?;
-    assert!(rt; set.count() <= MOST_ITEMS);
+    assert!(rt; set.count() <= MAX_ITEMS);
     assert_eq!(rt; set.write_list()?.as_slice(), b"0-5,7-9".as_slice());
     assert_eq!(rt;
         RangeSet::new(rt.alloc()).write_list()?.as_slice(),

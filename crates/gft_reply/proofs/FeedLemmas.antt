@@ -2,9 +2,9 @@
 use Rattle.std.proofs.Common.{◌≡◌, ℕ, ◌+◌, ◌-◌, ◌≤◌, Bool, true, false, List, [], ◌∷◌, ◌++◌, length, length-append, get_or, get_or-take, take, Some, None, append_assoc, append-nil, refl, sym, ap, ◌∙◌, inl, inr, arith}
 use Rattle.std.proofs.lemmas.Bool.{both_ways, cases_lt, eq-eqb}
 use Rattle.std.proofs.Math.Seq.{get_or-append_seam, take-append-add, take-append_seam, take-length}
-use Rattle.gft_base.specs.Parts.{Lacks}
-use Rattle.gft_text.specs.LineStream.{Told, told}
-use Rattle.gft_text.proofs.LineLemmas.{told-none}
+use Rattle.gft_base.specs.Words.{Lacks}
+use Rattle.gft_text.specs.Words.{Told, told}
+use Rattle.gft_text.proofs.Lemmas.{told-none}
 use Rattle.gft_reply.specs.declared.reply.Reply.{Reply}
 use Rattle.gft_reply.specs.ReplyStream.{heard, nothing}
 use Rattle.gft_reply.specs.Standing.{Standing}

@@ -6,7 +6,7 @@ use Rattle.std.proofs.lemmas.Bool.{both_ways, eq-eqb, ne_eqb}
 use Rattle.std.proofs.lemmas.List.{take_all}
 use Rattle.std.proofs.lemmas.List.Elements.{All-append, All-cons, All-nil}
 use Rattle.std.proofs.Math.Seq.{get_or-append_seam}
-use Rattle.gft_base.specs.Parts.{parts_at, parts_left, Lacks}
+use Rattle.gft_base.specs.Words.{parts_at, parts_left, Lacks}
 use Rattle.gft_reply.specs.Written.{IsWritable, code_text, front_of, is_none, written_line, written_lines}
 use Rattle.gft_reply.proofs.TakingLemmas.{split_whole}
 

@@ -2,9 +2,9 @@
 use Rattle.std.proofs.Common.{◌≡◌, ℕ, ◌+◌, ◌<◌, Bool, true, false, List, [], ◌∷◌, ◌++◌, length, length-append, map, Option, Some, None, append_assoc, refl, sym, ap, ◌∙◌, inl, inr, arith}
 use Rattle.std.specs.List.{AllByRecursion}
 use Rattle.std.proofs.lemmas.Bool.{lt-ltb, eq-eqb, eqb-true}
-use Rattle.gft_text.specs.LineStream.{Told, Line}
+use Rattle.gft_text.specs.Words.{Told, Line}
 use Rattle.gft_reply.specs.declared.reply.Reply.{Reply}
-use Rattle.gft_reply.specs.declared.reply.TheConstants.{LINE_COUNT_LIMIT}
+use Rattle.gft_reply.specs.declared.TheConstants.{LINE_COUNT_LIMIT}
 use Rattle.gft_reply.specs.Line.{Part, closes, head_of, inner_part, later_part, without_space}
 use Rattle.gft_reply.specs.ReplyStream.{Heard, Replied, heard, nothing, part_behind, part_then}
 use Rattle.gft_reply.specs.Grammar.{IsHead, IsInner, IsReply}

@@ -2,9 +2,9 @@
 use Rattle.std.proofs.Common.{◌≡◌, ◌⊎◌, ℕ, ◌+◌, ◌<◌, ◌≤◌, Bool, true, false, eqb, List, [], ◌∷◌, ◌++◌, length, length-append, map, Option, Some, None, append_assoc, refl, sym, ap, subst, ◌∙◌, inl, inr, arith}
 use Rattle.std.specs.List.{AllByRecursion}
 use Rattle.std.proofs.lemmas.Bool.{both_ways, cases_lt, eq-eqb, eqb-true, false≢true, le-ltb}
-use Rattle.gft_text.specs.LineStream.{Told, Line, Overlong}
+use Rattle.gft_text.specs.Words.{Told, Line, Overlong}
 use Rattle.gft_reply.specs.declared.reply.Reply.{Reply}
-use Rattle.gft_reply.specs.declared.reply.TheConstants.{LINE_COUNT_LIMIT}
+use Rattle.gft_reply.specs.declared.TheConstants.{LINE_COUNT_LIMIT}
 use Rattle.gft_reply.specs.Line.{Part, head_of, without_space}
 use Rattle.gft_reply.specs.ReplyStream.{Heard, Replied, Refused, heard, nothing, part_behind, part_then}
 use Rattle.gft_reply.specs.Grammar.{IsHead, IsInner, IsReply}

@@ -1,7 +1,9 @@
-pub mod FeedLemmas
-pub mod FitsLemmas
-pub mod GrammarLemmas
-pub mod HeardLemmas
-pub mod PieceLemmas
-pub mod TakingLemmas
-pub mod WrittenLemmas
+mod FeedLemmas
+mod FitsLemmas
+mod GrammarLemmas
+mod HeardLemmas
+mod PieceLemmas
+mod TakingLemmas
+mod WrittenLemmas
+-- what the proofs of other crates may cite
+pub mod Lemmas

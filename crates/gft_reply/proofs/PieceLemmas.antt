@@ -3,10 +3,10 @@ use Rattle.std.proofs.Common.{◌≡◌, ℕ, ◌<◌, ◌≤◌, List, [], ◌�
 use Rattle.std.specs.Result.{IfOk}
 use Rattle.std.specs.Str.Lines.{strip_carriage_return}
 use Rattle.std.proofs.lemmas.List.Elements.{All-append}
-use Rattle.gft_base.specs.Parts.{Lacks, parts_at, parts_left}
-use Rattle.gft_base.proofs.PartsLemmas.{parts_front}
-use Rattle.gft_text.specs.LineStream.{told}
-use Rattle.gft_text.specs.declared.lines.TheConstants.{LINE_LIMIT}
+use Rattle.gft_base.specs.Words.{Lacks, parts_at, parts_left}
+use Rattle.gft_base.proofs.Lemmas.{parts_front}
+use Rattle.gft_text.specs.Words.{told}
+use Rattle.gft_text.specs.declared.TheConstants.{LINE_LIMIT}
 use Rattle.gft_reply.specs.declared.reply.Reply.{Reply}
 use Rattle.gft_reply.specs.declared.taking.Stop.{Stop}
 use Rattle.gft_reply.specs.declared.taking.Stop.TheVariants as stop

@@ -3,11 +3,11 @@ use Rattle.std.proofs.Common.{◌≡◌, ℕ, ◌<◌, ◌≤◌, List, [], ◌�
 use Rattle.std.specs.List.{join_with_byte}
 use Rattle.std.specs.Str.Lines.{strip_carriage_return}
 use Rattle.std.proofs.lemmas.List.Splits.{join_with_byte-slice_split}
-use Rattle.gft_base.specs.Parts.{parts_at, parts_left, Lacks}
-use Rattle.gft_text.specs.LineStream.{Told, told}
-use Rattle.gft_text.specs.declared.lines.TheConstants.{LINE_LIMIT}
-use Rattle.gft_text.proofs.LineLemmas.{told-line, told-overlong}
-use Rattle.gft_base.proofs.PartsLemmas.{part_alone, parts_some}
+use Rattle.gft_base.specs.Words.{parts_at, parts_left, Lacks}
+use Rattle.gft_text.specs.Words.{Told, told}
+use Rattle.gft_text.specs.declared.TheConstants.{LINE_LIMIT}
+use Rattle.gft_text.proofs.Lemmas.{told-line, told-overlong}
+use Rattle.gft_base.proofs.Lemmas.{part_alone, parts_some}
 use Rattle.gft_reply.specs.declared.reply.Reply.{Reply}
 use Rattle.gft_reply.specs.declared.taking.Taken.{Taken}
 use Rattle.gft_reply.specs.ReplyStream.{Heard, Refused, heard, part_behind, part_then}

@@ -2,10 +2,10 @@
 use Rattle.std.proofs.Common.{◌≡◌, ℕ, ◌+◌, ◌/◌, ◌%◌, ◌*◌, ◌<◌, ◌≤◌, Bool, true, false, List, [], ◌∷◌, ◌++◌, length, length-append, Some, None, append_assoc, refl, ap, ◌∙◌, arith}
 use Rattle.std.specs.List.{AllByRecursion}
 use Rattle.std.proofs.lemmas.Bool.{le-ltb}
-use Rattle.gft_text.specs.LineStream.{Told, Line, told}
-use Rattle.gft_text.proofs.LineLemmas.{told-line, without_return}
+use Rattle.gft_text.specs.Words.{Told, Line, told}
+use Rattle.gft_text.proofs.Lemmas.{told-line, without_return}
 use Rattle.gft_reply.specs.declared.reply.Reply.{Reply}
-use Rattle.gft_reply.specs.declared.reply.TheConstants.{LINE_COUNT_LIMIT}
+use Rattle.gft_reply.specs.declared.TheConstants.{LINE_COUNT_LIMIT}
 use Rattle.gft_reply.specs.Line.{digit_of, head_of, mark_of}
 use Rattle.gft_reply.specs.ReplyStream.{Replied, heard, nothing, replies}
 use Rattle.gft_reply.specs.Grammar.{IsHead, IsInner}

@@ -1,8 +1,8 @@
 -- The lines that a reply was heard from.
 use Rattle.std.specs.Prelude.{◌≡◌, ℕ, ◌<◌, List, ◌++◌, length, map}
-use Rattle.gft_text.specs.LineStream.{Told, Line}
+use Rattle.gft_text.specs.Words.{Told, Line}
 use Rattle.gft_reply.specs.declared.reply.Reply.{Reply}
-use Rattle.gft_reply.specs.declared.reply.TheConstants.{LINE_COUNT_LIMIT}
+use Rattle.gft_reply.specs.declared.TheConstants.{LINE_COUNT_LIMIT}
 use Rattle.gft_reply.specs.ReplyStream.{Heard, heard, nothing}
 use Rattle.gft_reply.specs.Grammar.{IsReply}
 

@@ -6,3 +6,4 @@ pub mod ReplyStream
 pub mod Standing
 pub mod Taking
 pub mod Written
+pub mod Words

@@ -1,6 +1,6 @@
 -- Where a reader of replies stands in its stream, and what is still to come.
 use Rattle.std.specs.Prelude.{◌≡◌, ℕ, ◌≤◌, true, if◌then◌else◌, List, [], ◌∷◌, ◌++◌, length, take, Option, Some, None}
-use Rattle.gft_text.specs.LineStream.{told}
+use Rattle.gft_text.specs.Words.{told}
 use Rattle.gft_reply.specs.declared.reply.Reply.{Reply}
 use Rattle.gft_reply.specs.declared.replies.Got.{Got}
 use Rattle.gft_reply.specs.ReplyStream.{Heard, Replied, Refused, heard}

@@ -1,8 +1,8 @@
 -- What a stream's lines tell: its replies, in order, up to a line that can't stand there (RFC 959, section 4.2).
 use Rattle.std.specs.Prelude.{ℕ, ◌+◌, Bool, true, false, nat_lt, if◌then◌else◌, List, [], ◌∷◌, ◌++◌, length, Option, Some, None}
-use Rattle.gft_text.specs.LineStream.{Told, Line, Overlong, told}
+use Rattle.gft_text.specs.Words.{Told, Line, Overlong, told}
 use Rattle.gft_reply.specs.declared.reply.Reply.{Reply}
-use Rattle.gft_reply.specs.declared.reply.TheConstants.{LINE_COUNT_LIMIT}
+use Rattle.gft_reply.specs.declared.TheConstants.{LINE_COUNT_LIMIT}
 use Rattle.gft_reply.specs.Line.{Part, head_of, later_part}
 
 pub data Heard : Type 0 where

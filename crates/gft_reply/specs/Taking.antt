@@ -1,8 +1,8 @@
 -- What lines do to the reply that has begun.
 use Rattle.std.specs.Prelude.{◌≡◌, ℕ, ◌<◌, List, [], ◌∷◌, ◌++◌, length}
-use Rattle.gft_base.specs.Parts.{Lacks}
-use Rattle.gft_text.specs.LineStream.{told}
-use Rattle.gft_text.specs.declared.lines.TheConstants.{LINE_LIMIT}
+use Rattle.gft_base.specs.Words.{Lacks}
+use Rattle.gft_text.specs.Words.{told}
+use Rattle.gft_text.specs.declared.TheConstants.{LINE_LIMIT}
 use Rattle.gft_reply.specs.declared.reply.Reply.{Reply}
 use Rattle.gft_reply.specs.declared.taking.Taken.{Taken}
 use Rattle.gft_reply.specs.declared.taking.Taken.TheVariants as taken

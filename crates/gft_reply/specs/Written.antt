@@ -1,10 +1,10 @@
 -- The text of a reply: how it is written, and which replies have one (RFC 959, section 4.2).
 use Rattle.std.specs.Prelude.{ℕ, ◌+◌, ◌/◌, ◌%◌, ◌<◌, ◌≤◌, Bool, true, false, if◌then◌else◌, List, [], ◌∷◌, ◌++◌, length}
 use Rattle.std.specs.List.{AllByRecursion}
-use Rattle.gft_base.specs.Parts.{Lacks}
-use Rattle.gft_text.specs.declared.lines.TheConstants.{LINE_LIMIT}
+use Rattle.gft_base.specs.Words.{Lacks}
+use Rattle.gft_text.specs.declared.TheConstants.{LINE_LIMIT}
 use Rattle.gft_reply.specs.declared.reply.Reply.{Reply}
-use Rattle.gft_reply.specs.declared.reply.TheConstants.{LINE_COUNT_LIMIT}
+use Rattle.gft_reply.specs.declared.TheConstants.{LINE_COUNT_LIMIT}
 
 -- the three digits of a code
 abbrev pub code_text : ℕ → List ℕ

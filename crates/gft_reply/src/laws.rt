@@ -1,9 +1,9 @@
 //! What holds of every stream. A law is a function with an empty body; whoever calls it knows it.
 
 ghost use Rattle.std.specs.Prelude.{◌≡◌, ℕ, ◌<◌, List, [], ◌∷◌, ◌++◌, length, map};
-ghost use Rattle.gft_text.specs.LineStream.{Told, Line};
+ghost use Rattle.gft_text.specs.Words.{Told, Line};
 ghost use Rattle.gft_reply.specs.declared.reply.Reply.{Reply};
-ghost use Rattle.gft_reply.specs.declared.reply.TheConstants.{LINE_COUNT_LIMIT};
+ghost use Rattle.gft_reply.specs.declared.TheConstants.{LINE_COUNT_LIMIT};
 ghost use Rattle.gft_reply.specs.Grammar.{IsReply};
 ghost use Rattle.gft_reply.specs.HeardLines.{BeginsWith};
 ghost use Rattle.gft_reply.specs.ReplyStream.{Heard, Replied, heard, nothing};

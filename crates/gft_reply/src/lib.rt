@@ -17,5 +17,11 @@ mod written;
 
 pub use laws::replies_are_of_lines;
 pub use replies::{Got, Replies, ReplyError};
-pub use reply::{LINE_COUNT_LIMIT, Reply};
+pub use reply::Reply;
 pub use reply_lines::ReplyLines;
+
+/// So many lines are too many for one reply.
+pub const LINE_COUNT_LIMIT: usize = 1024;
+
+// The definitions of all crates cite the name: its number is pinned here.
+const _: () = prove!(LINE_COUNT_LIMIT == 1024);

@@ -21,8 +21,8 @@ pub struct Replies {
 
 impl Model for Replies {
     ghost use Rattle.std.specs.Prelude.{◌<◌, length};
-    ghost use Rattle.gft_base.specs.Parts.{Lacks};
-    ghost use Rattle.gft_text.specs.declared.lines.TheConstants.{LINE_LIMIT};
+    ghost use Rattle.gft_base.specs.Words.{Lacks};
+    ghost use Rattle.gft_text.specs.declared.TheConstants.{LINE_LIMIT};
     ghost use Rattle.gft_reply.specs.Standing.{Standing};
 
     ghost Value = { Standing };

@@ -1,11 +1,9 @@
 ghost use Rattle.std.specs.Prelude.{◌≡◌, [], IfOk};
 
+use crate::LINE_COUNT_LIMIT;
 use crate::reply_lines::ReplyLines;
 use gft_base::OutOfMemory;
 use std::alloc::Global;
-
-/// So many lines are too many for one reply.
-pub const LINE_COUNT_LIMIT: usize = 1024;
 
 /// A reply (RFC 959, section 4.2): its code, and the text of each line.
 #[derive(Debug, Drop)]

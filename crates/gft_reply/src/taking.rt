@@ -1,11 +1,12 @@
 ghost use Rattle.std.specs.Prelude.{◌≡◌, ◌++◌, List, length, take, IfOk, OnOk, OnErr};
-ghost use Rattle.gft_base.specs.Parts.{Lacks};
+ghost use Rattle.gft_base.specs.Words.{Lacks};
 ghost use Rattle.gft_reply.specs.declared.reply.Reply.{Reply};
 ghost use Rattle.gft_reply.specs.ReplyStream.{Heard, part_behind, part_then};
 ghost use Rattle.gft_reply.specs.Taking.{Grows, Stops, TakesPiece, heard_behind};
 
 use crate::part::{part_of, without_return};
-use crate::reply::{LINE_COUNT_LIMIT, Reply};
+use crate::LINE_COUNT_LIMIT;
+use crate::reply::Reply;
 use gft_base::{OutOfMemory, split_first};
 use gft_text::LINE_LIMIT;
 use std::alloc::AllocError;

@@ -1,10 +1,11 @@
 ghost use Rattle.std.specs.Prelude.{◌≡◌, ◌≤◌, ◌<◌, ◌+◌, ◌++◌, ◌∷◌, ◌↔◌, [], ℕ, List, length, true, IsTrue, IfOk, OnOk};
 ghost use Rattle.std.specs.List.{AllByRecursion};
-ghost use Rattle.gft_base.specs.Parts.{Lacks};
+ghost use Rattle.gft_base.specs.Words.{Lacks};
 ghost use Rattle.gft_reply.specs.ReplyStream.{Replied, replies};
 ghost use Rattle.gft_reply.specs.Written.{Fits, IsWritable, code_text, front_of, reply_text, spelled, written_line, written_lines};
 
-use crate::reply::{LINE_COUNT_LIMIT, Reply};
+use crate::LINE_COUNT_LIMIT;
+use crate::reply::Reply;
 use gft_base::{OutOfMemory, split_first};
 use gft_text::{LINE_LIMIT, Words};
 use std::alloc::Global;

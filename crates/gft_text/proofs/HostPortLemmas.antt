@@ -2,9 +2,8 @@
 use Rattle.std.proofs.Common.{◌≡◌, ℕ, ◌+◌, ◌/◌, ◌%◌, ◌<◌, ◌^◌, List, [], ◌∷◌, ◌++◌, length, length-append, arith, refl, ap, map, get_or, lit<, ◌∙◌}
 use Rattle.std.specs.List.{AllZip, AllByRecursion, join_with_byte}
 use Rattle.std.specs.Fmt.{decimal}
-use Rattle.gft_base.proofs.NumberLemmas.{parts-decimals, IsNumber-one, IsNumber-decimal}
-use Rattle.gft_base.proofs.ZipLemmas.{AllZip-length, AllZip-one}
-use Rattle.gft_base.specs.Parts.{parts_at}
+use Rattle.gft_base.proofs.Lemmas.{parts-decimals, IsNumber-one, IsNumber-decimal, AllZip-length, AllZip-one}
+use Rattle.gft_base.specs.Words.{parts_at}
 use Rattle.gft_text.specs.HostPort.{IsByte, IsHostPort, FitsHostPort, host_port_text}
 use Rattle.gft_text.specs.declared.host_port.HostPort.{HostPort}
 

@@ -5,8 +5,8 @@ use Rattle.std.specs.List.{list_all}
 use Rattle.std.proofs.lemmas.Bool.{not-true}
 use Rattle.std.proofs.lemmas.List.Elements.{All-append, All-cons}
 use Rattle.std.proofs.lemmas.List.Sums.{AllPass-from_list_all}
-use Rattle.gft_base.specs.Parts.{Lacks}
-use Rattle.gft_base.proofs.NumberLemmas.{IsNumber-decimal, digits_apart}
+use Rattle.gft_base.specs.Words.{Lacks}
+use Rattle.gft_base.proofs.Lemmas.{IsNumber-decimal, digits_apart}
 
 -- a literal text is looked through
 pub literal_lacks : (c : ℕ) (bs : List ℕ) → list_all (λ b. not (eqb b c)) bs ≡ true → Lacks c bs

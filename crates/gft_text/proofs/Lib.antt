@@ -1,5 +1,7 @@
-pub mod HostPortLemmas
-pub mod LackLemmas
-pub mod LineLemmas
-pub mod NameLemmas
-pub mod TableLemmas
+mod HostPortLemmas
+mod LackLemmas
+mod LineLemmas
+mod NameLemmas
+mod TableLemmas
+-- what the proofs of other crates may cite
+pub mod Lemmas

@@ -5,15 +5,15 @@ use mir.Val.{bool_byte}
 use Rattle.std.specs.Str.Lines.{strip_carriage_return}
 use Rattle.std.proofs.lemmas.Bool.{lt-ltb, le-ltb, both_ways, eq-eqb, eqb-true}
 use Rattle.std.proofs.lemmas.List.Splits.{slice_split_none}
-use Rattle.gft_base.specs.Parts.{parts_at, Lacks}
+use Rattle.gft_base.specs.Words.{parts_at, Lacks}
 use Rattle.gft_text.specs.LineStream.{Line, Overlong, told, told_of_parts}
 use Rattle.gft_text.specs.Lines.{Held, begun, IsFront, Carries, Overruns}
-use Rattle.gft_text.specs.declared.lines.TheConstants.{LINE_LIMIT}
+use Rattle.gft_text.specs.declared.TheConstants.{LINE_LIMIT}
 use Rattle.std.proofs.lemmas.List.{take_all, take_min, take_more, take-append-drop, length-take, length-take-le}
 use Rattle.std.proofs.lemmas.List.Elements.{All-append}
 use Rattle.std.proofs.lemmas.List.Quantifiers.{position-Some}
 use Rattle.std.proofs.Math.Seq.{take-append-add, take-append_seam, get_or-append_seam, take-length}
-use Rattle.gft_base.proofs.PartsLemmas.{parts_join, parts_front, parts_some, position-None, front_apart}
+use Rattle.gft_base.proofs.Lemmas.{parts_join, parts_front, parts_some, position-None, front_apart}
 
 parts_line : (line : List ℕ) (parts : List (List ℕ)) → 0 < length parts → length line < LINE_LIMIT → told_of_parts (line ∷ parts) ≡ Line (strip_carriage_return line) ∷ told_of_parts parts
 parts_line line [] some short = absurd (omega (arith, some))

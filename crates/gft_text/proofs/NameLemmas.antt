@@ -3,7 +3,7 @@ use Rattle.std.proofs.Common.{◌≡◌, ℕ, ◌<◌, Bool, true, false, not, c
 use Rattle.std.specs.Prelude.{Result, IsErrAnd, IfErr}
 use Rattle.std.specs.Option.{option_or}
 use Rattle.std.proofs.lemmas.Bool.{ltb-false, le-ltb, ne_eqb, eqb-false, not-false}
-use Rattle.gft_base.proofs.PartsLemmas.{position-None, position-none_from}
+use Rattle.gft_base.proofs.Lemmas.{position-None, position-none_from}
 use Rattle.gft_text.specs.declared.name.NameError.{NameError}
 use Rattle.gft_text.specs.declared.name.NameError.TheVariants.{OutOfMemory}
 use Rattle.gft_text.specs.Name.{IsName, Refuses, WritesName, fault_of, bad_byte, is_name_byte}

@@ -1,8 +1,7 @@
 -- Addresses in text (RFC 959, section 4.1.2, PORT): `h1,h2,h3,h4,p1,p2`.
 use Rattle.std.specs.Prelude.{◌≡◌, ℕ, ◌/◌, ◌%◌, ◌<◌, ◌^◌, ◌++◌, List, [], ◌∷◌, length, map, decimal}
 use Rattle.std.specs.List.{AllZip, AllByRecursion, join_with_byte}
-use Rattle.gft_base.specs.Number.{IsNumber}
-use Rattle.gft_base.specs.Parts.{parts_at}
+use Rattle.gft_base.specs.Words.{IsNumber, parts_at}
 use Rattle.gft_text.specs.declared.host_port.HostPort.{HostPort}
 
 -- the text writes a number of 8 bits

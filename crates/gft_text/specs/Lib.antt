@@ -3,3 +3,4 @@ pub mod LineStream
 pub mod Lines
 pub mod Name
 pub mod Table
+pub mod Words

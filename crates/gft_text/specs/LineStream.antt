@@ -1,8 +1,8 @@
 -- What a stream tells, line by line (RFC 959, section 5.3: a line ends with CR and LF; an LF alone ends one too).
 use Rattle.std.specs.Prelude.{ℕ, nat_lt, if◌then◌else◌, List, [], ◌∷◌, length}
 use Rattle.std.specs.Str.Lines.{strip_carriage_return}
-use Rattle.gft_base.specs.Parts.{parts_at}
-use Rattle.gft_text.specs.declared.lines.TheConstants.{LINE_LIMIT}
+use Rattle.gft_base.specs.Words.{parts_at}
+use Rattle.gft_text.specs.declared.TheConstants.{LINE_LIMIT}
 
 pub data Told : Type 0 where
   -- a line, without its end

@@ -1,9 +1,9 @@
 -- Where a reader of lines stands in its stream, and what is still to come.
 use Rattle.std.specs.Prelude.{◌≡◌, ℕ, ◌+◌, ◌<◌, ◌≤◌, Bool, true, false, MatchBool, if◌then◌else◌, List, [], ◌∷◌, ◌++◌, length, take}
 use Rattle.std.specs.Str.Lines.{strip_carriage_return}
-use Rattle.gft_base.specs.Parts.{Lacks}
+use Rattle.gft_base.specs.Words.{Lacks}
 use Rattle.gft_text.specs.LineStream.{Told, Line, Overlong, told}
-use Rattle.gft_text.specs.declared.lines.TheConstants.{LINE_LIMIT}
+use Rattle.gft_text.specs.declared.TheConstants.{LINE_LIMIT}
 use Rattle.gft_text.specs.declared.lines.Fed.{Fed}
 
 -- what contracts see of `Lines`

@@ -1,6 +1,6 @@
 ghost use Rattle.std.specs.Prelude.{◌≡◌, List, ℕ, MatchOption, length, IfOk, OnErr};
 ghost use Rattle.std.specs.List.{AllZip};
-ghost use Rattle.gft_base.specs.Parts.{parts_at};
+ghost use Rattle.gft_base.specs.Words.{parts_at};
 ghost use Rattle.gft_text.specs.HostPort.{IsHostPort, IsByte, host_port_text};
 ghost use Rattle.gft_text.specs.declared.host_port.HostPort.{HostPort};
 

@@ -2,13 +2,12 @@
 
 ghost use Rattle.std.specs.Prelude.{◌≡◌, ℕ, ◌<◌, ◌≤◌, ◌^◌, List, [], ◌∷◌, ◌++◌, length, decimal, None};
 ghost use Rattle.std.specs.Str.Lines.{strip_carriage_return};
-ghost use Rattle.gft_base.specs.Parts.{Lacks};
-ghost use Rattle.gft_base.specs.Number.{IsNumber};
+ghost use Rattle.gft_base.specs.Words.{Lacks, IsNumber};
 ghost use Rattle.gft_text.specs.Name.{IsName, WritesName, fault_of};
 ghost use Rattle.gft_text.specs.HostPort.{IsHostPort, FitsHostPort, host_port_text};
 ghost use Rattle.gft_text.specs.LineStream.{Line, Overlong, told};
 ghost use Rattle.gft_text.specs.declared.host_port.HostPort.{HostPort};
-ghost use Rattle.gft_text.specs.declared.lines.TheConstants.{LINE_LIMIT};
+ghost use Rattle.gft_text.specs.declared.TheConstants.{LINE_LIMIT};
 
 /// Bytes and an LF are a line, and then comes what the rest tells.
 pub fn one_line()

@@ -17,12 +17,15 @@ mod tests;
 mod words;
 
 pub use host_port::{HostPort, read_host_port, write_host_port};
-pub use laws::{
-    an_overlong_line, host_ports_have_one_value, names_have_one_value, no_line_yet,
-    numbers_have_one_value, one_line,
-};
-pub use lines::{Fed, LINE_LIMIT, LineError, Lines};
+pub use laws::{an_overlong_line, host_ports_have_one_value, names_have_one_value, no_line_yet, numbers_have_one_value, one_line};
+pub use lines::{Fed, LineError, Lines};
 pub use name::{Name, NameError, read_name};
 pub use number::{BadNumber, read_number};
 pub use table::{Entry, Table};
 pub use words::Words;
+
+/// The most bytes that are taken since a line's end: as many without an LF are too long a line.
+pub const LINE_LIMIT: usize = 65536;
+
+// The definitions of all crates cite the name: its number is pinned here.
+const _: () = prove!(LINE_LIMIT == 65_536);

@@ -1,15 +1,13 @@
 ghost use Rattle.std.specs.Prelude.{◌≡◌, ℕ, ◌<◌, ◌≤◌, ◌+◌, [], ◌∷◌, ◌++◌, List, length, take, false, IsTrue, IsErr, vec_len, IfOk, OnOk, OnErr, Err};
-ghost use Rattle.gft_base.specs.Parts.{Lacks};
+ghost use Rattle.gft_base.specs.Words.{Lacks};
 ghost use Rattle.gft_text.specs.LineStream.{told};
 ghost use Rattle.gft_text.specs.Lines.{Carries, Feeds, IsFront, IsOverlong, Overruns, begun, shown, to_come};
 
+use crate::LINE_LIMIT;
 use gft_base::find_byte;
 use std::alloc::{AllocError, Global};
 use std::marker::Model;
 use thiserror::Error;
-
-/// The most bytes that are taken since a line's end: as many without an LF are too long a line.
-pub const LINE_LIMIT: usize = 65536;
 
 /// A reader of the lines of a stream, which takes its bytes in any pieces. A line ends with an LF.
 ///
@@ -24,9 +22,9 @@ pub struct Lines {
 
 impl Model for Lines {
     ghost use Rattle.std.specs.Prelude.{◌≡◌, ◌<◌, ◌≤◌, true, length};
-    ghost use Rattle.gft_base.specs.Parts.{Lacks};
+    ghost use Rattle.gft_base.specs.Words.{Lacks};
     ghost use Rattle.gft_text.specs.Lines.{Held};
-    ghost use Rattle.gft_text.specs.declared.lines.TheConstants.{LINE_LIMIT};
+    ghost use Rattle.gft_text.specs.declared.TheConstants.{LINE_LIMIT};
 
     ghost Value = { Held };
 

@@ -1,5 +1,5 @@
 ghost use Rattle.std.specs.Prelude.{ℕ, IfOk, OnErr};
-ghost use Rattle.gft_base.specs.Number.{IsNumber};
+ghost use Rattle.gft_base.specs.Words.{IsNumber};
 
 use gft_base::read_decimal;
 use thiserror::Error;

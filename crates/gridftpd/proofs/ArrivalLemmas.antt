@@ -1,8 +1,7 @@
 -- Lists of arrivals, one behind another.
 use Rattle.std.proofs.Common.{◌≡◌, ℕ, ◌+◌, ◌<◌, ◌≤◌, ◌⊎◌, ◌↔◌, List, [], ◌∷◌, ◌++◌, length, refl, ap, arith, inl, inr}
 use Rattle.std.proofs.lemmas.Bool.{cases_lt}
-use Rattle.gft_base.specs.Arrival.{Arrival, At, Eof, Eod, Bad, Arrives, totals, eods}
-use Rattle.gft_eblock.specs.Arrivals.{data_at}
+use Rattle.gft_eblock.specs.Words.{Arrival, At, Eof, Eod, Bad, Arrives, totals, eods, data_at}
 
 pub Arrives-append : (a b : List Arrival) (x : ℕ) → Arrives (a ++ b) x ↔ (Arrives a x ⊎ Arrives b x)
 Arrives-append [] b x = (λ h. inr h, λ h. elim h [ inl none ↦ absurd none | inr in_b ↦ in_b ])

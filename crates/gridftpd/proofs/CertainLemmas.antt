@@ -1,13 +1,12 @@
 -- A good input is refused by no line.
 use Rattle.std.proofs.Common.{◌≡◌, ℕ, ◌<◌, ◌⊎◌, List, [], ◌∷◌, ◌++◌, append_assoc, append-nil, length, take, Option, Some, None, IsSome, refl, sym, ap, ◌∙◌, subst, arith, inl, inr}
 use Rattle.std.proofs.lemmas.List.{take-append-le}
-use Rattle.gft_base.specs.Causes.{Rose}
-use Rattle.gft_base.specs.Arrival.{Arrival, Refusal, At, Eof, Eod, Bad, eods}
-use Rattle.gft_range.specs.declared.range.Range.{Range}
-use Rattle.gft_eblock.specs.declared.channel.TheConstants.{MOST_BYTES}
-use Rattle.gft_eblock.specs.Arrivals.{arrivals, data_at, IsUnfinished, HasEnded}
-use Rattle.gft_eblock.proofs.EndingLemmas.{arrivals-ended, arrivals-grow, unfinished_not_ended}
-use Rattle.gft_eod.specs.declared.error.EodError.{EodError}
+use Rattle.gft_base.specs.Words.{Rose}
+use Rattle.gft_eblock.specs.Words.{Arrival, Refusal, At, Eof, Eod, Bad, eods, arrivals, data_at, IsUnfinished, HasEnded}
+use Rattle.gft_range.specs.declared.Range.{Range}
+use Rattle.gft_eblock.specs.declared.TheConstants.{MAX_BYTES}
+use Rattle.gft_eblock.proofs.Lemmas.{arrivals-ended, arrivals-grow, unfinished_not_ended}
+use Rattle.gft_eod.specs.declared.EodError.{EodError}
 use Rattle.gridftpd.proofs.CountLemmas.{done_is_counted}
 use Rattle.gridftpd.specs.declared.outcome.Outcome.{Outcome}
 use Rattle.gridftpd.specs.declared.outcome.Outcome.TheVariants as outcome
@@ -88,7 +87,7 @@ module _ (bytes stream rest : List ℕ) (all : bytes ≡ stream ++ rest) (good :
       let more = grown in
       done_is_counted (told_by stream) more.0 end error (subst (λ (list : List Arrival). SaysDone list end) more.1 says) wrong
 
-  not_too_long : ((n : ℕ) → n < length stream → IsUnfinished (told_by (take n stream))) → length stream ≡ MOST_BYTES → ⊥
+  not_too_long : ((n : ℕ) → n < length stream → IsUnfinished (told_by (take n stream))) → length stream ≡ MAX_BYTES → ⊥
   not_too_long in_time long =
       let n = good.soon.0 in
       let lt : n < length stream = omega (arith, good.soon.1) in

@@ -2,14 +2,13 @@
 use Rattle.std.proofs.Common.{◌≡◌, ℕ, suc, ◌+◌, ◌≤◌, ◌⊎◌, List, [], ◌∷◌, ◌++◌, append-nil, append_assoc, ◌||◌, Option, Some, None, refl, sym, ap, ◌∙◌, subst, arith, inl, inr}
 use Rattle.std.proofs.lemmas.Bool.Decides.{eqb_tells}
 use Rattle.std.specs.Prelude.{nat_eq, nat_lt}
-use Rattle.gft_base.specs.Arrival.{Arrival, At, Eof, Eod, Bad, totals, eods}
+use Rattle.gft_eblock.specs.Words.{Arrival, At, Eof, Eod, Bad, totals, eods}
 use Rattle.gridftpd.specs.Totals.{first_of, AllAre}
 use Rattle.gridftpd.proofs.DoneLemmas.{SaysDone}
-use Rattle.gft_eod.specs.declared.error.EodError.{EodError}
-use Rattle.gft_eod.specs.declared.error.EodError.TheVariants.{BadTotal, TwoTotals}
-use Rattle.gft_eod.specs.Count.{Count}
-use Rattle.gft_core.proofs.ProgressLemmas.{else_none, eod_fits, eof_fits}
-use Rattle.gft_eod.specs.Refusal.{eof_refusal, totals_refusal}
+use Rattle.gft_eod.specs.declared.EodError.{EodError}
+use Rattle.gft_eod.specs.declared.EodError.TheVariants.{BadTotal, TwoTotals}
+use Rattle.gft_eod.specs.Words.{Count, eof_refusal, totals_refusal}
+use Rattle.gft_core.proofs.Lemmas.{else_none, eod_fits, eof_fits}
 use Rattle.gridftpd.specs.Cause.{count_of, refusal_at, IsMiscounted}
 use Rattle.gridftpd.specs.Follows.{Counts}
 use Rattle.gridftpd.proofs.ArrivalLemmas.{totals-append, eods-append}

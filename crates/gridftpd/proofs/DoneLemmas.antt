@@ -1,13 +1,12 @@
 -- When the events of arrivals are done.
 use Rattle.std.proofs.Common.{◌≡◌, ℕ, ◌+◌, ◌<◌, ◌≤◌, ◌↔◌, List, [], ◌∷◌, Some, None, refl, sym, ap, ◌∙◌, arith}
 use Rattle.std.specs.Prelude.{Option}
-use Rattle.gft_base.specs.Arrival.{Arrival, At, Eof, Eod, Bad, Arrives, totals, eods}
-use Rattle.gft_core.specs.declared.event.CoreEvent.{CoreEvent}
-use Rattle.gft_core.specs.declared.event.CoreEvent.TheVariants as event
-use Rattle.gft_core.specs.Kept.{first}
-use Rattle.gft_core.specs.Done.{since, begun, total, AllPass, Done}
-use Rattle.gft_core.specs.Done as core
-use Rattle.gft_core.proofs.OptionLemmas.{first-none, first-assoc}
+use Rattle.gft_eblock.specs.Words.{Arrival, At, Eof, Eod, Bad, Arrives, totals, eods}
+use Rattle.gft_core.specs.declared.CoreEvent.{CoreEvent}
+use Rattle.gft_core.specs.declared.CoreEvent.TheVariants as event
+use Rattle.gft_core.specs.Words.{first, since, begun, total, AllPass, Done}
+use Rattle.gft_core.specs.Words as core
+use Rattle.gft_core.proofs.Lemmas.{first-none, first-assoc}
 use Rattle.gridftpd.specs.Events.{event_of, events_after, events_of}
 use Rattle.gridftpd.specs.Follows.{HasNoBad}
 use Rattle.gridftpd.specs.Totals.{first_of, AllAre}

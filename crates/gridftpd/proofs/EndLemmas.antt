@@ -5,29 +5,22 @@ use Rattle.std.specs.Io.KnownBytes.{Consumes, IsAtEnd}
 use Rattle.std.proofs.lemmas.List.{take_all, get_or-take, take-append-drop, length-take-le}
 use Rattle.std.proofs.lemmas.Bool.{cases_lt}
 use Rattle.std.proofs.lemmas.Option.{slice_get-get_or, slice_get_past}
-use Rattle.gft_base.specs.Causes.{Rose}
-use Rattle.gft_base.specs.Arrival.{Arrival, Bad, Arrives, totals, eods}
-use Rattle.gft_core.specs.Kept.{kept}
-use Rattle.gft_core.specs.Done.{Done}
-use Rattle.gft_range.specs.declared.range.Range.{Range}
-use Rattle.gft_range.specs.Range.{HasOffset}
-use Rattle.gft_range.specs.Set.{KeptRanges}
-use Rattle.gft_range.specs.FirstGap.{IsFirstGap, HasNoGap}
-use Rattle.gft_drive.specs.Drive.{DriveState, Reads}
-use Rattle.gft_drive.specs.declared.drive.Part.TheVariants.{Bytes}
-use Rattle.gft_drive.specs.Write.{Same, CutTo}
-use Rattle.gft_drive.proofs.Steps.{Reads-then}
-use Rattle.gft_keep.specs.Store.{IsFull, Finishes, block_of}
-use Rattle.gft_eblock.specs.declared.bad_block.BadBlock.{BadBlock}
-use Rattle.gft_eblock.specs.declared.event.Step.{Step}
-use Rattle.gft_eblock.specs.declared.event.Event.TheVariants as event
-use Rattle.gft_eblock.specs.Arrivals.{arrivals, blocks_from, data_at, IsUnfinished}
-use Rattle.gft_eblock.specs.Channel.{Reader, to_come, wanted, refusal_of}
-use Rattle.gft_eblock.specs.Channel as channel
-use Rattle.gft_eblock.specs.Feeding.{Advances, Fails, event_arrivals}
-use Rattle.gft_eblock.proofs.ToComeLemmas.{to_come-done, to_come-nothing, to_come-early}
-use Rattle.gft_eod.specs.declared.error.EodError.{EodError}
-use Rattle.gft_eod.specs.Count.{IsCount, IsMet, IsWithin}
+use Rattle.gft_base.specs.Words.{Rose}
+use Rattle.gft_eblock.specs.Words.{Arrival, Bad, Arrives, totals, eods, arrivals, blocks_from, data_at, IsUnfinished, Reader, to_come, wanted, refusal_of, Advances, Fails, event_arrivals}
+use Rattle.gft_core.specs.Words.{kept, Done}
+use Rattle.gft_range.specs.declared.Range.{Range}
+use Rattle.gft_range.specs.Words.{HasOffset, KeptRanges, IsFirstGap, HasNoGap}
+use Rattle.gft_drive.specs.Words.{DriveState, Reads, Same, CutTo}
+use Rattle.gft_drive.specs.declared.Part.TheVariants.{Bytes}
+use Rattle.gft_drive.proofs.Lemmas.{Reads-then}
+use Rattle.gft_keep.specs.Words.{IsFull, Finishes, block_of}
+use Rattle.gft_eblock.specs.declared.BadBlock.{BadBlock}
+use Rattle.gft_eblock.specs.declared.Step.{Step}
+use Rattle.gft_eblock.specs.declared.Event.TheVariants as event
+use Rattle.gft_eblock.specs.Words as channel
+use Rattle.gft_eblock.proofs.Lemmas.{to_come-done, to_come-nothing, to_come-early}
+use Rattle.gft_eod.specs.declared.EodError.{EodError}
+use Rattle.gft_eod.specs.Words.{IsCount, IsMet, IsWithin}
 use Rattle.gridftpd.proofs.CountLemmas.{count_is}
 use Rattle.gridftpd.proofs.DoneLemmas.{done_of}
 use Rattle.gridftpd.proofs.EventLemmas.{none_kept}

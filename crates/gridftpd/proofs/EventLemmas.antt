@@ -3,13 +3,11 @@ use Rattle.std.proofs.Common.{◌≡◌, ◌≢◌, ℕ, zero, suc, ◌+◌, ◌
 use Rattle.std.specs.Prelude.{Option, slice_index}
 use Rattle.std.proofs.lemmas.Option.{none-some}
 use Rattle.std.proofs.lemmas.Bool.{cases_order}
-use Rattle.gft_base.specs.Arrival.{Arrival, At, Eof, Eod, Bad, Arrives}
-use Rattle.gft_core.specs.declared.event.CoreEvent.{CoreEvent}
-use Rattle.gft_core.specs.declared.event.CoreEvent.TheVariants as event
-use Rattle.gft_core.specs.Kept.{first, byte_at, answered, kept}
-use Rattle.gft_core.proofs.OptionLemmas.{first-none, first-assoc, first_front, first_back}
-use Rattle.gft_core.proofs.KeptLemmas.{byte_at-here, byte_at-later}
-use Rattle.gft_eblock.specs.Arrivals.{data_at}
+use Rattle.gft_eblock.specs.Words.{Arrival, At, Eof, Eod, Bad, Arrives, data_at}
+use Rattle.gft_core.specs.declared.CoreEvent.{CoreEvent}
+use Rattle.gft_core.specs.declared.CoreEvent.TheVariants as event
+use Rattle.gft_core.specs.Words.{first, byte_at, answered, kept}
+use Rattle.gft_core.proofs.Lemmas.{first-none, first-assoc, first_front, first_back, byte_at-here, byte_at-later}
 use Rattle.gridftpd.specs.Events.{event_of, events_after, events_of}
 
 kept-event : (before : List CoreEvent) (arrival : Arrival) (x : ℕ) → kept (event_of arrival ∷ before) x ≡ first (kept before x) (answered (event_of arrival) x)

@@ -4,25 +4,19 @@ use Rattle.std.specs.Prelude.{slice_index}
 use Rattle.std.proofs.lemmas.List.{take_all, length-take-le, take-append-le}
 use Rattle.std.proofs.Math.Seq.{take-append-add}
 use Rattle.std.proofs.lemmas.Bool.{cases_lt}
-use Rattle.gft_base.specs.Arrival.{Arrival, At, Eof, Eod, Bad, Arrives, eods}
-use Rattle.gft_core.specs.Kept.{kept}
-use Rattle.gft_range.specs.declared.range.Range.{Range}
-use Rattle.gft_range.specs.Range.{HasOffset}
-use Rattle.gft_range.specs.Set.{IsUnion}
-use Rattle.gft_range.proofs.OffsetLemmas.{HasOffset-or}
-use Rattle.gft_drive.specs.Drive.{DriveState, Goes, Reads}
-use Rattle.gft_drive.specs.declared.drive.Part.TheVariants.{Bytes}
-use Rattle.gft_drive.proofs.Steps.{Goes-refl, Goes-then, Reads-same, Reads-then, Reads-weaker}
-use Rattle.gft_keep.specs.Holds.{Holds}
-use Rattle.gft_keep.specs.Store.{Stores, block_of}
-use Rattle.gft_eblock.specs.declared.event.Step.{Step}
-use Rattle.gft_eblock.specs.declared.event.Event.TheVariants as event
-use Rattle.gft_eblock.specs.Arrivals.{arrivals, data_at, IsUnfinished}
-use Rattle.gft_eblock.specs.Channel.{to_come, wanted}
-use Rattle.gft_eblock.specs.Feeding.{Advances, event_arrivals}
-use Rattle.gft_eblock.proofs.EndingLemmas.{IsUnfinished-append, IsUnfinished-data_at}
-use Rattle.gft_eblock.proofs.ToComeLemmas.{to_come-early}
-use Rattle.gft_eod.specs.Refusal.{eof_refusal}
+use Rattle.gft_eblock.specs.Words.{Arrival, At, Eof, Eod, Bad, Arrives, eods, arrivals, data_at, IsUnfinished, to_come, wanted, Advances, event_arrivals}
+use Rattle.gft_core.specs.Words.{kept}
+use Rattle.gft_range.specs.declared.Range.{Range}
+use Rattle.gft_range.specs.Words.{HasOffset, IsUnion}
+use Rattle.gft_range.proofs.Lemmas.{HasOffset-or}
+use Rattle.gft_drive.specs.Words.{DriveState, Goes, Reads}
+use Rattle.gft_drive.specs.declared.Part.TheVariants.{Bytes}
+use Rattle.gft_drive.proofs.Lemmas.{Goes-refl, Goes-then, Reads-same, Reads-then, Reads-weaker}
+use Rattle.gft_keep.specs.Words.{Holds, Stores, block_of}
+use Rattle.gft_eblock.specs.declared.Step.{Step}
+use Rattle.gft_eblock.specs.declared.Event.TheVariants as event
+use Rattle.gft_eblock.proofs.Lemmas.{IsUnfinished-append, IsUnfinished-data_at, to_come-early}
+use Rattle.gft_eod.specs.Words.{eof_refusal}
 use Rattle.gridftpd.proofs.CountLemmas.{Counts-same, Counts-eof, Counts-eod}
 use Rattle.gridftpd.specs.declared.intake.Intake.{Intake}
 use Rattle.gridftpd.specs.Follows.{Counts, Follows, HasKeptIn, HasNoBad}

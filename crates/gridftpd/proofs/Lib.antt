@@ -1,10 +1,10 @@
-pub mod ArrivalLemmas
-pub mod CountLemmas
-pub mod DoneLemmas
-pub mod EndLemmas
-pub mod EventLemmas
-pub mod FollowLemmas
-pub mod OriginLemmas
-pub mod StatusLemmas
-pub mod WordsLemmas
-pub mod CertainLemmas
+mod ArrivalLemmas
+mod CountLemmas
+mod DoneLemmas
+mod EndLemmas
+mod EventLemmas
+mod FollowLemmas
+mod OriginLemmas
+mod StatusLemmas
+mod WordsLemmas
+mod CertainLemmas

@@ -3,19 +3,15 @@ use Rattle.std.proofs.Common.{◌≡◌, ◌≢◌, ℕ, zero, suc, ◌<◌, Lis
 use Rattle.std.specs.Io.KnownBytes.{Consumes}
 use Rattle.std.proofs.lemmas.Bool.{cases_order}
 use Rattle.std.proofs.lemmas.Option.{none-some}
-use Rattle.gft_base.specs.Arrival.{Arrival, At, Eof, Eod, Bad, eods}
-use Rattle.gft_core.specs.declared.event.CoreEvent.{CoreEvent}
-use Rattle.gft_core.specs.declared.event.CoreEvent.TheVariants as event
-use Rattle.gft_core.specs.Kept.{byte_at, generation}
-use Rattle.gft_core.specs.Done.{Done}
-use Rattle.gft_core.specs.Laws.{AllCarry, Carries}
-use Rattle.gft_core.proofs.HonestLemmas.{honest, sent_where_booked}
-use Rattle.gft_core.proofs.KeptLemmas.{byte_at-here, byte_at-later}
-use Rattle.gft_drive.specs.Drive.{DriveState, Reads}
-use Rattle.gft_drive.specs.declared.drive.Part.TheVariants.{Bytes}
-use Rattle.gft_drive.proofs.Steps.{Reads-weaker}
-use Rattle.gft_eblock.specs.Arrivals.{arrivals, HasEnded}
-use Rattle.gft_eblock.proofs.EndingLemmas.{arrivals-ended}
+use Rattle.gft_eblock.specs.Words.{Arrival, At, Eof, Eod, Bad, eods, arrivals, HasEnded}
+use Rattle.gft_core.specs.declared.CoreEvent.{CoreEvent}
+use Rattle.gft_core.specs.declared.CoreEvent.TheVariants as event
+use Rattle.gft_core.specs.Words.{byte_at, generation, Done, AllCarry, Carries}
+use Rattle.gft_core.proofs.Lemmas.{honest, sent_where_booked, byte_at-here, byte_at-later}
+use Rattle.gft_drive.specs.Words.{DriveState, Reads}
+use Rattle.gft_drive.specs.declared.Part.TheVariants.{Bytes}
+use Rattle.gft_drive.proofs.Lemmas.{Reads-weaker}
+use Rattle.gft_eblock.proofs.Lemmas.{arrivals-ended}
 use Rattle.gridftpd.specs.Cause.{told_by}
 use Rattle.gridftpd.specs.Events.{event_of, events_after, events_of, IsKept}
 use Rattle.gridftpd.specs.Drain.{IsTaken, IsStored, IsTruthful, IsHonest, IsFile}

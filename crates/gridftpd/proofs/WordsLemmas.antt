@@ -2,7 +2,7 @@
 use Rattle.std.proofs.Common.{◌≡◌, ◌<◌, ◌≤◌, ◌↔◌, Bool, List, [], ◌∷◌, length, get_or, Ok, Err, arith}
 use Rattle.std.specs.Prelude.{Result, IfOk, IsTrue, codes, String, string_bytes}
 use Rattle.std.specs.declared.alloc.Global.{Global}
-use Rattle.gft_text.specs.Name.{IsName}
+use Rattle.gft_text.specs.Words.{IsName}
 use Rattle.gridftpd.specs.Words.{AreDrainWords}
 
 -- a list of two

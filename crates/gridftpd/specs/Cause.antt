@@ -1,18 +1,15 @@
 -- What each outcome says of the bytes that were taken of the input, and of what is left of it.
 use Rattle.std.specs.Prelude.{◌≡◌, ◌≢◌, ℕ, ◌+◌, ◌<◌, ◌⊎◌, ◌↔◌, List, [], ◌∷◌, ◌++◌, length, Option, None, Some, IsSome}
 use Rattle.std.specs.Io.KnownBytes.{IsAtEnd}
-use Rattle.gft_base.specs.Arrival.{Arrival, Refusal, Eof, Eod, Bad, Arrives, totals, eods}
-use Rattle.gft_core.specs.Done.{Done}
-use Rattle.gft_range.specs.declared.range.Range.{Range}
-use Rattle.gft_range.specs.Range.{InRange, HasOffset}
-use Rattle.gft_eblock.specs.declared.channel.TheConstants.{MOST_BYTES}
-use Rattle.gft_eblock.specs.Arrivals.{arrivals, data_at, IsUnfinished}
-use Rattle.gft_eblock.specs.Channel.{refusal_of}
-use Rattle.gft_eod.specs.declared.error.EodError.{EodError}
-use Rattle.gft_eod.specs.Count.{Count}
-use Rattle.gft_eod.specs.Refusal.{eof_refusal, eod_refusal}
-use Rattle.gft_keep.specs.declared.keep.TheConstants.{MOST_RANGES}
-use Rattle.gft_keep.specs.Store.{IsFull, block_of}
+use Rattle.gft_eblock.specs.Words.{Arrival, Refusal, Eof, Eod, Bad, Arrives, totals, eods, arrivals, data_at, IsUnfinished, refusal_of}
+use Rattle.gft_core.specs.Words.{Done}
+use Rattle.gft_range.specs.declared.Range.{Range}
+use Rattle.gft_range.specs.Words.{InRange, HasOffset}
+use Rattle.gft_eblock.specs.declared.TheConstants.{MAX_BYTES}
+use Rattle.gft_eod.specs.declared.EodError.{EodError}
+use Rattle.gft_eod.specs.Words.{Count, eof_refusal, eod_refusal}
+use Rattle.gft_keep.specs.declared.TheConstants.{MAX_RANGES}
+use Rattle.gft_keep.specs.Words.{IsFull, block_of}
 use Rattle.gridftpd.specs.Events.{events_of}
 use Rattle.gridftpd.specs.Totals.{first_of}
 use Rattle.gridftpd.specs.declared.outcome.Outcome.{Outcome}
@@ -86,8 +83,8 @@ IsCause (outcome.Lost taken) stream left = IsLost stream left taken
 IsCause (outcome.Hole total number missing) stream left = HasHole stream left total number missing
 IsCause (outcome.BadBlock bad) stream left = EndsBad stream (refusal_of bad)
 IsCause (outcome.CountRefused error) stream left = IsMiscounted (told_by stream) error
-IsCause outcome.TooLong stream left = length stream ≡ MOST_BYTES
-IsCause (outcome.RangesFull kept) stream left = (kept ≡ MOST_RANGES) × NeedsMoreRanges (told_by stream)
+IsCause outcome.TooLong stream left = length stream ≡ MAX_BYTES
+IsCause (outcome.RangesFull kept) stream left = (kept ≡ MAX_RANGES) × NeedsMoreRanges (told_by stream)
 IsCause outcome.ReadFailed stream left = Unit {0}
 IsCause outcome.DriveFailed stream left = Unit {0}
 IsCause outcome.OutOfMemory stream left = Unit {0}

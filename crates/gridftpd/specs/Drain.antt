@@ -1,13 +1,12 @@
 -- What `gridftpd drain` promises.
 use Rattle.std.specs.Prelude.{◌≡◌, ℕ, ◌<◌, ◌⊎◌, List, [], ◌∷◌, length, take, slice_get, Option, Some}
 use Rattle.std.specs.Io.KnownBytes.{Consumes, Appends}
-use Rattle.gft_base.specs.Causes.{Rose}
-use Rattle.gft_base.specs.Arrival.{Arrival, At, Eof, Eod, Bad, Arrives, eods}
-use Rattle.gft_core.specs.Done.{Done}
-use Rattle.gft_drive.specs.Drive.{DriveState, Reads}
-use Rattle.gft_drive.specs.declared.drive.Part.TheVariants.{Bytes}
-use Rattle.gft_eblock.specs.declared.channel.TheConstants.{MOST_BYTES}
-use Rattle.gft_eblock.specs.Arrivals.{IsUnfinished, HasEnded}
+use Rattle.gft_base.specs.Words.{Rose}
+use Rattle.gft_eblock.specs.Words.{Arrival, At, Eof, Eod, Bad, Arrives, eods, IsUnfinished, HasEnded}
+use Rattle.gft_core.specs.Words.{Done}
+use Rattle.gft_drive.specs.Words.{DriveState, Reads}
+use Rattle.gft_drive.specs.declared.Part.TheVariants.{Bytes}
+use Rattle.gft_eblock.specs.declared.TheConstants.{MAX_BYTES}
 use Rattle.gridftpd.specs.Cause.{told_by, NeedsMoreRanges}
 use Rattle.gridftpd.specs.Events.{events_of, IsKept}
 use Rattle.gridftpd.specs.Line.{text_of, out_of_memory_text}
@@ -66,5 +65,5 @@ pub record IsHonest (source : List ℕ) (list : List Arrival) : Type 0 where
 -- an input that makes a transfer done, with an EOD (or a bad header) within 2^58 bytes, and no piece of which needs more ranges than may be kept
 pub record IsGood (bytes : List ℕ) : Type 0 where
   pub done : Done (events_of (told_by bytes))
-  pub soon : (n : ℕ) × (n < MOST_BYTES) × HasEnded (told_by (take n bytes))
+  pub soon : (n : ℕ) × (n < MAX_BYTES) × HasEnded (told_by (take n bytes))
   pub few_ranges : ¬ NeedsMoreRanges (told_by bytes)

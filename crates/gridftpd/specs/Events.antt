@@ -1,9 +1,9 @@
 -- One recorded data connection, as the events of a transfer that stores a file afresh.
 use Rattle.std.specs.Prelude.{◌≡◌, ℕ, List, [], ◌∷◌, false, slice_get}
-use Rattle.gft_base.specs.Arrival.{Arrival, At, Eof, Eod, Bad}
-use Rattle.gft_core.specs.declared.event.CoreEvent.{CoreEvent}
-use Rattle.gft_core.specs.declared.event.CoreEvent.TheVariants as event
-use Rattle.gft_core.specs.Kept.{kept}
+use Rattle.gft_eblock.specs.Words.{Arrival, At, Eof, Eod, Bad}
+use Rattle.gft_core.specs.declared.CoreEvent.{CoreEvent}
+use Rattle.gft_core.specs.declared.CoreEvent.TheVariants as event
+use Rattle.gft_core.specs.Words.{kept}
 
 -- what an arrival is to the transfer, on lane 0 and channel 0: a byte is a block of one byte, and a bad header loses the channel
 abbrev pub event_of : Arrival → CoreEvent

@@ -1,15 +1,13 @@
 -- How an intake stands to the bytes that it took.
 use Rattle.std.specs.Prelude.{◌≡◌, ℕ, ◌<◌, ◌↔◌, Some, List, [], ◌∷◌, ◌++◌, false, length, take, slice_index}
-use Rattle.gft_base.specs.Arrival.{Arrival, At, Eof, Eod, Bad, Arrives, totals, eods}
-use Rattle.gft_core.specs.Kept.{kept}
-use Rattle.gft_range.specs.declared.range.Range.{Range}
-use Rattle.gft_range.specs.Range.{HasOffset}
-use Rattle.gft_drive.specs.Drive.{DriveState, Goes, Reads}
-use Rattle.gft_drive.specs.declared.drive.Part.TheVariants.{Bytes}
-use Rattle.gft_keep.specs.Holds.{Holds}
-use Rattle.gft_eod.specs.Count.{Count}
-use Rattle.gft_eblock.specs.Arrivals.{arrivals, IsUnfinished}
-use Rattle.gft_eblock.specs.Channel.{to_come}
+use Rattle.gft_eblock.specs.Words.{Arrival, At, Eof, Eod, Bad, Arrives, totals, eods, arrivals, IsUnfinished, to_come}
+use Rattle.gft_core.specs.Words.{kept}
+use Rattle.gft_range.specs.declared.Range.{Range}
+use Rattle.gft_range.specs.Words.{HasOffset}
+use Rattle.gft_drive.specs.Words.{DriveState, Goes, Reads}
+use Rattle.gft_drive.specs.declared.Part.TheVariants.{Bytes}
+use Rattle.gft_keep.specs.Words.{Holds}
+use Rattle.gft_eod.specs.Words.{Count}
 use Rattle.gridftpd.specs.Events.{events_of}
 use Rattle.gridftpd.specs.Totals.{first_of, AllAre}
 use Rattle.gridftpd.specs.declared.intake.Intake.{Intake}

@@ -1,10 +1,10 @@
 -- The line that `gridftpd drain` prints.
 use Rattle.std.specs.Prelude.{ℕ, List, ◌++◌, codes, Option, None, Some}
 use Rattle.std.specs.Fmt.{decimal}
-use Rattle.gft_eblock.specs.declared.bad_block.BadBlock.{BadBlock}
-use Rattle.gft_eod.specs.declared.error.EodError.{EodError}
-use Rattle.gft_eod.specs.declared.error.EodError.TheVariants.{BadTotal, TwoTotals, TooManyEods}
-use Rattle.gft_range.specs.declared.range.Range.{Range}
+use Rattle.gft_eblock.specs.declared.BadBlock.{BadBlock}
+use Rattle.gft_eod.specs.declared.EodError.{EodError}
+use Rattle.gft_eod.specs.declared.EodError.TheVariants.{BadTotal, TwoTotals, TooManyEods}
+use Rattle.gft_range.specs.declared.Range.{Range}
 use Rattle.gridftpd.specs.declared.outcome.Outcome.{Outcome}
 use Rattle.gridftpd.specs.declared.outcome.Outcome.TheVariants as outcome
 

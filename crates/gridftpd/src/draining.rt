@@ -1,8 +1,8 @@
 ghost use Rattle.std.specs.Prelude.{◌≡◌, ℕ, ◌≤◌, ◌⊎◌, List, Option, Some, None, IsSomeAnd, IfOk, OnErr, string_bytes};
 ghost use Rattle.std.specs.Io.KnownBytes.{Appends};
-ghost use Rattle.gft_base.specs.Causes.{Rose};
-ghost use Rattle.gft_drive.specs.Drive.{Goes, Reads};
-ghost use Rattle.gft_drive.specs.declared.drive.Part.TheVariants.{Bytes};
+ghost use Rattle.gft_base.specs.Words.{Rose};
+ghost use Rattle.gft_drive.specs.Words.{Goes, Reads};
+ghost use Rattle.gft_drive.specs.declared.Part.TheVariants.{Bytes};
 ghost use Rattle.gridftpd.specs.Words.{AreDrainWords};
 ghost use Rattle.gridftpd.specs.Cause.{IsCause, told_by};
 ghost use Rattle.gridftpd.specs.Drain.{IsTaken, IsStored, IsTold, IsPut, IsRefusal, IsHonest, IsFile, IsGood};

@@ -1,9 +1,9 @@
 ghost use Rattle.std.specs.Prelude.{◌≡◌, ℕ, ◌+◌, ◌<◌, ◌≤◌, ◌↔◌, List, [], ◌++◌, length, IsTrue, IfErr, IfOk, ◌⊎◌, OnOk, OnErr, if◌then◌else◌, false, true, Some, None, Option};
 ghost use Rattle.std.specs.Io.KnownBytes.{IsAtEnd};
-ghost use Rattle.gft_base.specs.Causes.{Rose};
-ghost use Rattle.gft_drive.specs.Drive.{DriveState, Goes};
-ghost use Rattle.gft_eblock.specs.Channel.{wanted, IsDone};
-ghost use Rattle.gft_keep.specs.Holds.{Holds};
+ghost use Rattle.gft_base.specs.Words.{Rose};
+ghost use Rattle.gft_drive.specs.Words.{DriveState, Goes};
+ghost use Rattle.gft_eblock.specs.Words.{wanted, IsDone};
+ghost use Rattle.gft_keep.specs.Words.{Holds};
 ghost use Rattle.gridftpd.specs.Cause.{IsCause};
 ghost use Rattle.gridftpd.specs.Drain.{IsTaken, IsStored};
 ghost use Rattle.gridftpd.specs.Turn.{IsTurnsOutcome, IsEndsOutcome};
@@ -12,7 +12,7 @@ use crate::outcome::Outcome;
 use crate::reading::read_next;
 use gft_base::Failed;
 use gft_drive::{Drive, Source};
-use gft_eblock::{Channel, Event, MOST_BYTES};
+use gft_eblock::{Channel, Event, MAX_BYTES};
 use gft_eod::EodCount;
 use gft_keep::{Keep, KeepError};
 
@@ -64,7 +64,7 @@ impl<D: Drive + Drop> Intake<D> {
     {
         'reads: loop {
             let wants = self.channel.wants();
-            let room = MOST_BYTES - self.channel.taken();
+            let room = MAX_BYTES - self.channel.taken();
             let Ok(count) = read_next(input, buf, wants.min(room)) else {
                 return Outcome::ReadFailed;
             };
@@ -85,7 +85,7 @@ impl<D: Drive + Drop> Intake<D> {
     /// Feeds one piece, and tells whether the EOD came.
     fn turn(&mut self, piece: &[u8]) -> Result<bool, Outcome>
         requires not_done { ¬ IsDone self.old.channel }
-        requires room { self.old.channel.taken + length piece.now ≤ MOST_BYTES }
+        requires room { self.old.channel.taken + length piece.now ≤ MAX_BYTES }
         requires wanted { length piece.now ≤ wanted self.old.channel }
         requires whole { self.old.keep.broken ≡ false }
         requires holds { Holds self.old.keep.set.ranges (D.state self.old.keep.drive) }

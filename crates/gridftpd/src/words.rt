@@ -1,5 +1,5 @@
 ghost use Rattle.std.specs.Prelude.{◌↔◌, IsTrue, IfOk, OnErr};
-ghost use Rattle.gft_text.specs.Name.{IsName};
+ghost use Rattle.gft_text.specs.Words.{IsName};
 ghost use Rattle.gridftpd.specs.Words.{AreDrainWords};
 
 use gft_base::OutOfMemory;

@@ -1,6 +1,6 @@
 ghost use Rattle.std.specs.Prelude.{◌≡◌, ◌<◌, ◌++◌, ◌↔◌, length, MatchResult, IsTrue, OnOk};
-ghost use Rattle.gft_opts.specs.Part.{FitsEret, IsEret, eret_text};
-ghost use Rattle.gft_opts.specs.declared.part.Eret.{Eret};
+ghost use Rattle.gft_opts.specs.Words.{FitsEret, IsEret, eret_text};
+ghost use Rattle.gft_opts.specs.declared.Eret.{Eret};
 ghost use Rattle.gft_command.specs.Parameters.{FitsBytes, Refuses};
 
 use crate::error::CommandError;

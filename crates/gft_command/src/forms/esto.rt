@@ -1,6 +1,6 @@
 ghost use Rattle.std.specs.Prelude.{◌≡◌, ◌<◌, ◌++◌, ◌↔◌, length, MatchResult, IsTrue, OnOk};
-ghost use Rattle.gft_opts.specs.Part.{FitsEsto, IsEsto, esto_text};
-ghost use Rattle.gft_opts.specs.declared.part.Esto.{Esto};
+ghost use Rattle.gft_opts.specs.Words.{FitsEsto, IsEsto, esto_text};
+ghost use Rattle.gft_opts.specs.declared.Esto.{Esto};
 ghost use Rattle.gft_command.specs.Parameters.{FitsBytes, Refuses};
 
 use crate::error::CommandError;

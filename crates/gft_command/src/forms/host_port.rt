@@ -1,6 +1,6 @@
 ghost use Rattle.std.specs.Prelude.{◌≡◌, ◌++◌, MatchResult, IsTrue, OnOk};
-ghost use Rattle.gft_text.specs.HostPort.{IsHostPort, host_port_text};
-ghost use Rattle.gft_text.specs.declared.host_port.HostPort.{HostPort};
+ghost use Rattle.gft_text.specs.Words.{IsHostPort, host_port_text};
+ghost use Rattle.gft_text.specs.declared.HostPort.{HostPort};
 ghost use Rattle.gft_command.specs.Parameters.{IsShort, Refuses};
 
 use crate::error::CommandError;

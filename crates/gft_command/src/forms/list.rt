@@ -1,11 +1,10 @@
 ghost use Rattle.std.specs.Prelude.{◌≡◌, ◌≤◌, ◌++◌, ◌↔◌, length, MatchResult, IsTrue, OnOk};
-ghost use Rattle.gft_range.specs.ListText.{IsList, list_text};
-ghost use Rattle.gft_range.specs.Set.{KeptRanges};
+ghost use Rattle.gft_range.specs.Words.{IsList, list_text, KeptRanges};
 ghost use Rattle.gft_command.specs.Parameters.{IsShort, Refuses};
 
 use crate::error::CommandError;
 use gft_base::OutOfMemory;
-use gft_range::{ListError, MOST_ITEMS, RangeSet};
+use gft_range::{ListError, MAX_ITEMS, RangeSet};
 use std::alloc::Global;
 
 /// A list of ranges, of at most 512 items (GFD.20, REST in extended block mode).
@@ -35,5 +34,5 @@ pub(crate) fn append(line: &mut Vec<u8>, set: &RangeSet) -> Result<(), OutOfMemo
 pub(crate) fn fits(_verb: &str, set: &RangeSet) -> bool
     ensures { IsTrue result ↔ (length set.now.ranges ≤ 512) }
 {
-    set.count() <= MOST_ITEMS
+    set.count() <= MAX_ITEMS
 }

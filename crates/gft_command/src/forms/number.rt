@@ -1,5 +1,5 @@
 ghost use Rattle.std.specs.Prelude.{◌≡◌, ◌++◌, ℕ, decimal, MatchResult, IsTrue, OnOk};
-ghost use Rattle.gft_base.specs.Number.{IsNumber};
+ghost use Rattle.gft_base.specs.Words.{IsNumber};
 ghost use Rattle.gft_command.specs.Parameters.{IsShort, Refuses};
 
 use crate::error::CommandError;

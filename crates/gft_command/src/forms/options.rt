@@ -1,6 +1,6 @@
 ghost use Rattle.std.specs.Prelude.{◌≡◌, ◌++◌, ◌↔◌, MatchResult, IsTrue, OnOk};
-ghost use Rattle.gft_opts.specs.Retr.{FitsRetr};
-ghost use Rattle.gft_opts.specs.declared.retr.RetrOptions.{RetrOptions};
+ghost use Rattle.gft_opts.specs.Words.{FitsRetr};
+ghost use Rattle.gft_opts.specs.declared.RetrOptions.{RetrOptions};
 ghost use Rattle.gft_command.specs.Parameters.{IsOptions, IsShort, Refuses, options_text};
 
 use crate::error::CommandError;

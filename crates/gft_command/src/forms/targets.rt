@@ -1,6 +1,6 @@
 ghost use Rattle.std.specs.Prelude.{◌≡◌, ◌++◌, ◌↔◌, List, MatchResult, IsTrue, OnOk};
-ghost use Rattle.gft_text.specs.declared.host_port.HostPort.{HostPort};
-ghost use Rattle.gft_opts.specs.Targets.{FitsTargets, IsTargets, targets_text};
+ghost use Rattle.gft_text.specs.declared.HostPort.{HostPort};
+ghost use Rattle.gft_opts.specs.Words.{FitsTargets, IsTargets, targets_text};
 ghost use Rattle.gft_command.specs.Parameters.{IsShort, Refuses};
 
 use crate::error::CommandError;

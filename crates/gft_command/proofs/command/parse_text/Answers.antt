@@ -1,6 +1,6 @@
 use Rattle.std.proofs.Common.{List, arith, codes, refl, sym, ◌∙◌}
 use Rattle.std.proofs.lemmas.Result.{err_from_is_err_and}
-use Rattle.gft_text.specs.declared.table.Entry.{Entry}
+use Rattle.gft_text.specs.declared.Entry.{Entry}
 use Rattle.gft_command.specs.Commands.{HasVerb}
 use Rattle.gft_command.proofs.VerbLemmas.{bad, bad_bare, code_within, needs, no_byte, some_byte, unknown, verb_at, no_quit, no_noop, no_feat, no_pwd, no_settype, no_setmode, no_setstru, no_dcau, no_sbuf, no_allo, no_opts, no_pasv, no_spas, no_port, no_spor, no_rest, no_eret, no_esto, no_abor}
 use Rattle.gft_command.proofs.command.parse_text.Goals as goal

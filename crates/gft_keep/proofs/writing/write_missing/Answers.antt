@@ -1,10 +1,10 @@
 use Rattle.std.proofs.Common.{◌-◌, ◌≤◌, ℕ, List, length, drop, arith, rules, refl, sym, ap, ◌∙◌, subst, length-drop}
 use Rattle.std.proofs.lemmas.List.{length-take-le}
-use Rattle.gft_range.specs.declared.range.Range.{Range}
-use Rattle.gft_range.specs.Set.{IsMissing}
-use Rattle.gft_drive.specs.Write.{Written}
-use Rattle.gft_drive.specs.declared.drive.Part.TheVariants.{Bytes}
-use Rattle.gft_drive.proofs.Steps.{Goes-refl, Goes-then, Reads-then}
+use Rattle.gft_range.specs.declared.Range.{Range}
+use Rattle.gft_range.specs.Words.{IsMissing}
+use Rattle.gft_drive.specs.Words.{Written}
+use Rattle.gft_drive.specs.declared.Part.TheVariants.{Bytes}
+use Rattle.gft_drive.proofs.Lemmas.{Goes-refl, Goes-then, Reads-then}
 use Rattle.gft_keep.specs.Store.{Stores, offset_count}
 use Rattle.gft_keep.specs.Writing.{Writing}
 use Rattle.gft_keep.proofs.FileLemmas.{left_at_first, left_after, in_block, writing_none, writing_more, stores_all}

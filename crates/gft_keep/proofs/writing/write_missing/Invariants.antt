@@ -1,8 +1,8 @@
 use Rattle.std.proofs.Common.{◌≡◌, ◌+◌, ◌≤◌, List}
-use Rattle.gft_range.specs.declared.range.Range.{Range}
-use Rattle.gft_range.specs.Set.{IsMissing}
-use Rattle.gft_drive.specs.Drive.{Goes, Reads}
-use Rattle.gft_drive.specs.declared.drive.Part.TheVariants.{Bytes}
+use Rattle.gft_range.specs.declared.Range.{Range}
+use Rattle.gft_range.specs.Words.{IsMissing}
+use Rattle.gft_drive.specs.Words.{Goes, Reads}
+use Rattle.gft_drive.specs.declared.Part.TheVariants.{Bytes}
 use Rattle.gft_keep.specs.Store.{offset_count}
 use Rattle.gft_keep.specs.Writing.{AreLeft, Writing}
 use Rattle.gft_keep.proofs.writing.write_missing.Given as goal

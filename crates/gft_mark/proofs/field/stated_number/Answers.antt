@@ -1,4 +1,4 @@
-use Rattle.gft_base.specs.Number.{IsNumber}
+use Rattle.gft_base.specs.Words.{IsNumber}
 use Rattle.gft_mark.proofs.FieldLemmas.{States-read}
 use Rattle.gft_mark.proofs.field.stated_number.Goals as goal
 

@@ -1,7 +1,7 @@
 use Rattle.std.proofs.Common.{◌≡◌, ◌++◌, ◌∷◌, [], length, length-take, take, ap, arith, rules}
 use Rattle.std.specs.Prelude.{codes}
 use Rattle.std.proofs.lemmas.Grind.{common_steps}
-use Rattle.gft_range.specs.ListText.{IsList}
+use Rattle.gft_range.specs.Words.{IsList}
 use Rattle.gft_mark.proofs.RangeLemmas.{Fits-range}
 use Rattle.gft_mark.proofs.range.range_marker.Goals as goal
 

@@ -1,5 +1,5 @@
 use Rattle.std.proofs.Common.{◌↔◌, length}
-use Rattle.gft_base.specs.Number.{AreDigits}
+use Rattle.gft_base.specs.Words.{AreDigits}
 use Rattle.gft_mark.proofs.value.are_digits.Given as goal
 
 abbrev pub invariant-loop-left : goal.invariant-loop-left

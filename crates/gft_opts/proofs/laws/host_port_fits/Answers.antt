@@ -1,5 +1,5 @@
 use Rattle.std.proofs.Common.{rules}
-use Rattle.gft_text.proofs.HostPortLemmas.{four_bytes}
+use Rattle.gft_text.proofs.Lemmas.{four_bytes}
 use Rattle.gft_opts.proofs.laws.host_port_fits.Goals as goal
 
 pub returns : goal.returns

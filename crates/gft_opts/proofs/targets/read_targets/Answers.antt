@@ -1,14 +1,14 @@
 use Rattle.std.proofs.Common.{[], ◌∷◌, ◌++◌, append_assoc, arith}
 use Rattle.std.specs.Option.{option_copied}
-use Rattle.gft_base.specs.Parts.{parts_left}
-use Rattle.gft_base.proofs.ZipLemmas.{AllZip-length, AllZip-middle, AllZip-push}
-use Rattle.gft_text.specs.HostPort.{IsHostPort}
+use Rattle.gft_base.specs.Words.{parts_left}
+use Rattle.gft_base.proofs.Lemmas.{AllZip-length, AllZip-middle, AllZip-push}
+use Rattle.gft_text.specs.Words.{IsHostPort}
 use Rattle.gft_opts.proofs.TargetsLemmas.{all_read}
 use Rattle.gft_opts.proofs.targets.read_targets.Goals as goal
 
-pub returns-then-count-gt-MOST_TARGETS-clause-none :
-    goal.returns-then-count-gt-MOST_TARGETS-clause-none
-returns-then-count-gt-MOST_TARGETS-clause-none c = λ targets is.
+pub returns-then-count-gt-MAX_TARGETS-clause-none :
+    goal.returns-then-count-gt-MAX_TARGETS-clause-none
+returns-then-count-gt-MAX_TARGETS-clause-none c = λ targets is.
     omega (arith, is.few, AllZip-length IsHostPort _ targets is.read)
 
 pub returns-in_default-read_host_port-clause-none :

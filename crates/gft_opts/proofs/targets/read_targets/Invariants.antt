@@ -1,8 +1,8 @@
 use Rattle.std.proofs.Common.{◌≡◌, ℕ, List, ◌++◌, length}
 use Rattle.std.specs.Option.{option_copied}
 use Rattle.std.specs.List.{AllZip}
-use Rattle.gft_base.specs.Parts.{parts_at, parts_left}
-use Rattle.gft_text.specs.HostPort.{IsHostPort}
+use Rattle.gft_base.specs.Words.{parts_at, parts_left}
+use Rattle.gft_text.specs.Words.{IsHostPort}
 use Rattle.gft_opts.proofs.targets.read_targets.Given as goal
 
 abbrev pub invariant-loop-rest : goal.invariant-loop-rest

@@ -1,6 +1,6 @@
 use Rattle.std.proofs.Common.{◌≤◌, length}
 use Rattle.std.specs.Option.{option_copied}
-use Rattle.gft_base.specs.Parts.{parts_left}
+use Rattle.gft_base.specs.Words.{parts_left}
 use Rattle.gft_range.proofs.ListLemmas.{Adding}
 use Rattle.gft_range.proofs.list.add_items.Given as goal
 

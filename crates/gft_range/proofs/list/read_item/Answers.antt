@@ -1,6 +1,6 @@
 use Rattle.std.proofs.Common.{arith}
 use Rattle.gft_range.proofs.ListLemmas.{dashed_two, dashed_item}
-use Rattle.gft_base.proofs.NumberLemmas.{IsNumber-one}
+use Rattle.gft_base.proofs.Lemmas.{IsNumber-one}
 use Rattle.gft_range.proofs.list.read_item.Goals as goal
 
 pub returns-in_err-end-in-Some : goal.returns-in_err-end-in-Some

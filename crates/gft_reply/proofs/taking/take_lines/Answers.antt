@@ -1,6 +1,6 @@
 use Rattle.std.proofs.Common.{◌≡◌, ℕ, List, [], ◌∷◌, ◌++◌, append_assoc, refl, ap, ◌∙◌, arith}
 use Rattle.std.specs.Option.{option_copied}
-use Rattle.gft_text.specs.LineStream.{told}
+use Rattle.gft_text.specs.Words.{told}
 use Rattle.gft_reply.specs.declared.taking.Taken.{Taken}
 use Rattle.gft_reply.specs.ReplyStream.{heard}
 use Rattle.gft_reply.specs.Taking.{heard_behind}

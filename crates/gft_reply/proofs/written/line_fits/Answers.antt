@@ -1,6 +1,6 @@
 use Rattle.std.proofs.Common.{◌≡◌, sym}
 use Rattle.std.proofs.lemmas.Bool.{lt-ltb, ltb-true}
-use Rattle.gft_base.specs.Parts.{Lacks}
+use Rattle.gft_base.specs.Words.{Lacks}
 use Rattle.gft_reply.proofs.FitsLemmas.{line_feed_in, not_writable, short_enough, whole_of, writable}
 use Rattle.gft_reply.proofs.written.line_fits.Goals as goal
 

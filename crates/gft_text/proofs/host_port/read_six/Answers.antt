@@ -3,7 +3,7 @@ use Rattle.std.proofs.lemmas.List.{length-take-le, take_more_set}
 use Rattle.std.proofs.lemmas.List.Splits.{length-slice_split}
 use Rattle.gft_text.specs.HostPort.{IsByte}
 use Rattle.gft_text.proofs.HostPortLemmas.{parts_count}
-use Rattle.gft_base.proofs.ZipLemmas.{AllZip-middle, AllZip-push}
+use Rattle.gft_base.proofs.Lemmas.{AllZip-middle, AllZip-push}
 use Rattle.gft_text.proofs.host_port.read_six.Goals as goal
 
 pub returns-in_err-rest : goal.returns-in_err-rest

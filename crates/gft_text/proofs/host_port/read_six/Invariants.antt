@@ -1,7 +1,7 @@
 use Rattle.std.proofs.Common.{◌≡◌, ℕ, List, ◌++◌, take}
 use Rattle.std.specs.Option.{option_copied}
 use Rattle.std.specs.List.{AllZip}
-use Rattle.gft_base.specs.Parts.{parts_at, parts_left}
+use Rattle.gft_base.specs.Words.{parts_at, parts_left}
 use Rattle.gft_text.specs.HostPort.{IsByte}
 use Rattle.gft_text.proofs.host_port.read_six.Given as goal
 

@@ -1,4 +1,4 @@
-use Rattle.gft_base.proofs.NumberLemmas.{IsNumber-decimal, IsNumber-one}
+use Rattle.gft_base.proofs.Lemmas.{IsNumber-decimal, IsNumber-one}
 use Rattle.gft_text.proofs.laws.numbers_have_one_value.Goals as goal
 
 pub returns-clause-written : goal.returns-clause-written

@@ -1,6 +1,6 @@
 use Rattle.std.proofs.Common.{◌≡◌, ◌⊎◌, ℕ, sym, ◌∙◌, subst}
 use Rattle.gridftpd.proofs.OriginLemmas.{stored_is_source}
-use Rattle.gft_base.specs.Causes.{Rose}
+use Rattle.gft_base.specs.Words.{Rose}
 use Rattle.gridftpd.proofs.CertainLemmas.{certain_of, refused_never}
 use Rattle.gridftpd.proofs.StatusLemmas.{complete_of}
 use Rattle.gridftpd.proofs.draining.drain.Goals as goal

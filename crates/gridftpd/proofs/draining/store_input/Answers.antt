@@ -1,7 +1,7 @@
 use Rattle.std.proofs.Common.{◌≡◌, [], sym, ap, subst}
-use Rattle.gft_drive.specs.Drive.{DriveState, Goes}
-use Rattle.gft_drive.proofs.Steps.{Goes-then}
-use Rattle.gft_keep.specs.declared.keep.Keep.{Keep}
+use Rattle.gft_drive.specs.Words.{DriveState, Goes}
+use Rattle.gft_drive.proofs.Lemmas.{Goes-then}
+use Rattle.gft_keep.specs.declared.Keep.{Keep}
 use Rattle.gridftpd.specs.Drain.{IsStored}
 use Rattle.gridftpd.proofs.EndLemmas.{is_false, nothing_taken, stored_since, rose_since}
 use Rattle.gridftpd.proofs.draining.store_input.Goals as goal

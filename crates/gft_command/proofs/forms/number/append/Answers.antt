@@ -1,5 +1,5 @@
 use Rattle.std.proofs.Common.{rules, lit≤}
-use Rattle.gft_base.proofs.NumberLemmas.{IsNumber-decimal}
+use Rattle.gft_base.proofs.Lemmas.{IsNumber-decimal}
 use Rattle.gft_command.proofs.PrintedLemmas.{brief_short, number_brief}
 use Rattle.gft_command.proofs.forms.number.append.Goals as goal
 

@@ -1,5 +1,5 @@
 use Rattle.std.proofs.Common.{◌≡◌, ℕ, ◌+◌, ◌↔◌, ◌⊎◌, ◌<◌, ◌≤◌, length, false}
-use Rattle.gft_range.specs.Range.{HasOffset}
+use Rattle.gft_range.specs.Words.{HasOffset}
 use Rattle.gft_core.proofs.MachineLemmas.{block_booked, block_kept, empty_kept, nothing_more}
 use Rattle.gft_core.proofs.ProgressLemmas.{Tells-block}
 use Rattle.gft_core.proofs.machine.Core.book.Goals as goal

@@ -1,4 +1,4 @@
-use Rattle.gft_text.specs.HostPort.{FitsHostPort}
+use Rattle.gft_text.specs.Words.{FitsHostPort}
 use Rattle.gft_opts.proofs.ListLemmas.{more_fit}
 use Rattle.gft_opts.proofs.host_ports.HostPorts.push.Goals as goal
 

@@ -1,8 +1,7 @@
 use Rattle.std.proofs.Common.{◌≡◌, ◌≢◌, ◌⊎◌, List, Some, IsSome, true, false, sym, subst, ap, ◌∙◌, inl, inr}
 use Rattle.std.specs.Prelude.{IfSome, IfNone}
-use Rattle.gft_range.specs.declared.range.Range.{Range}
-use Rattle.gft_range.specs.FirstGap.{IsFirstGap, HasNoGap}
-use Rattle.gft_range.specs.Set.{KeptRanges}
+use Rattle.gft_range.specs.declared.Range.{Range}
+use Rattle.gft_range.specs.Words.{IsFirstGap, HasNoGap, KeptRanges}
 use Rattle.gridftpd.proofs.EndLemmas.{hole_from, done_from, stored_from, below_end, is_none}
 use Rattle.gridftpd.proofs.intake.Intake.finish.Goals as goal
 use Rattle.gridftpd.proofs.intake.Intake.finish.Goals.{then-not-is_met-via-then-not-is_met, then-not-is_met-via-else-not-is_met+then-is_some}

@@ -1,8 +1,8 @@
 use Rattle.std.proofs.Common.{ℕ, [], List, refl, sym, subst, arith}
-use Rattle.gft_range.specs.declared.range.Range.{Range}
-use Rattle.gft_range.specs.Range.{HasOffset}
-use Rattle.gft_drive.proofs.Steps.{Goes-refl, Reads-same}
-use Rattle.gft_drive.specs.declared.drive.Part.TheVariants.{Bytes}
+use Rattle.gft_range.specs.declared.Range.{Range}
+use Rattle.gft_range.specs.Words.{HasOffset}
+use Rattle.gft_drive.proofs.Lemmas.{Goes-refl, Reads-same}
+use Rattle.gft_drive.specs.declared.Part.TheVariants.{Bytes}
 use Rattle.gridftpd.specs.Follows.{HasKeptIn}
 use Rattle.gridftpd.proofs.intake.Intake.new.Goals as goal
 

@@ -1,6 +1,6 @@
 use Rattle.std.proofs.Common.{◌≡◌, ◌<◌, ◌≤◌, ◌++◌, [], Bool, cond, take, arith, length, length-append, ap, subst, inl, inr}
 use Rattle.std.proofs.lemmas.List.{length-take-le}
-use Rattle.gft_eblock.specs.Channel.{wanted}
+use Rattle.gft_eblock.specs.Words.{wanted}
 use Rattle.gridftpd.specs.Follows.{Follows}
 use Rattle.gridftpd.specs.Drain.{IsStored}
 use Rattle.gridftpd.specs.Turn.{IsTurnsOutcome}

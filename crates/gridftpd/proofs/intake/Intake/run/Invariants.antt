@@ -1,7 +1,7 @@
 use Rattle.std.proofs.Common.{ℕ, ◌-◌, ◌<◌, ◌≤◌, List}
 use Rattle.std.specs.Io.KnownBytes.{Consumes}
-use Rattle.gft_eblock.specs.declared.channel.TheConstants.{MOST_BYTES}
-use Rattle.gft_eblock.specs.Channel.{IsDone}
+use Rattle.gft_eblock.specs.declared.TheConstants.{MAX_BYTES}
+use Rattle.gft_eblock.specs.Words.{IsDone}
 use Rattle.gridftpd.specs.Follows.{Follows}
 use Rattle.gridftpd.proofs.intake.Intake.run.Given as goal
 
@@ -11,10 +11,10 @@ invariant-reads g l = record {
   consumed : Consumes (g.I.Source.left l.initial.input) (g.I.Source.left l.input) stream;
   follows : Follows g.D.Drive.state (g.D.Drive.state l.initial.self.keep.drive) 0 stream l.self;
   not_done : ¬ IsDone l.self.channel;
-  room : l.self.channel.taken < MOST_BYTES;
+  room : l.self.channel.taken < MAX_BYTES;
   read_faults : g.I.Source.faults l.initial.input ≤ g.I.Source.faults l.input;
   drive_faults : (g.D.Drive.state l.initial.self.keep.drive).faults ≤ (g.D.Drive.state l.self.keep.drive).faults;
 }
 
 abbrev pub decreases-reads : goal.decreases-reads
-decreases-reads g l = MOST_BYTES - l.self.channel.taken
+decreases-reads g l = MAX_BYTES - l.self.channel.taken

@@ -1,8 +1,6 @@
 use Rattle.std.proofs.Common.{◌≡◌, Some, Err, ap, sym, subst, ◌∙◌, refl}
-use Rattle.gft_eod.specs.Count.{Count}
-use Rattle.gft_eod.specs.Refusal.{eof_refusal, eod_refusal}
-use Rattle.gft_base.specs.Arrival.{Eof, Eod}
-use Rattle.gft_eblock.specs.Feeding.{event_arrivals}
+use Rattle.gft_eod.specs.Words.{Count, eof_refusal, eod_refusal}
+use Rattle.gft_eblock.specs.Words.{Eof, Eod, event_arrivals}
 use Rattle.gridftpd.proofs.FollowLemmas.{follows_none, follows_piece, follows_eof, follows_eod}
 use Rattle.gridftpd.proofs.EndLemmas.{is_false, bad_from, miscounted_from, ranges_from}
 use Rattle.gridftpd.proofs.intake.Intake.turn.Goals as goal

@@ -1,0 +1,3 @@
+-- The lemmas of this crate that the proofs of other crates may cite.
+pub use Rattle.gft_opts.proofs.RetrLemmas.{fits as IsRetr-fits, one as IsRetr-one}
+pub use Rattle.gft_opts.proofs.TargetsLemmas.{fits as IsTargets-fits, one as IsTargets-one}
