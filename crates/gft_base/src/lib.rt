@@ -3,6 +3,8 @@
 //! separators.
 #![tactic(auto)]
 
+ghost use Rattle.std.specs.Prelude.{◌≡◌};
+
 mod errors;
 mod faults;
 mod number;
@@ -18,5 +20,8 @@ pub use parts::{count_parts, find_byte, split_first, split_word, strip_front};
 /// The greatest end of a range of offsets, in bytes: 2^48 - 1.
 pub const LIMIT: u64 = 0xffff_ffff_ffff;
 
-// The definitions of all crates cite the name: its number is pinned here.
-const _: () = prove!(LIMIT == 281_474_976_710_655);
+/// The definitions of all crates cite the limit by its name: here is its number.
+pub fn limit_is_as_promised()
+    ensures { LIMIT ≡ 281474976710655 }
+{
+}
