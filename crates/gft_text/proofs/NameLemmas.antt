@@ -1,7 +1,7 @@
 -- A name has no fault, and what has no fault is a name.
 use Rattle.std.proofs.Common.{◌≡◌, ℕ, ◌<◌, Bool, true, false, not, cond, eqb, ltb, List, length, get_or, Option, Some, None, [], ◌∷◌, refl, sym, ap, ◌∙◌, subst, arith, Ok, Err}
-use Rattle.std.specs.Prelude.{Result, IsErrAnd, IfErr}
-use Rattle.std.specs.Option.{option_or}
+use Rattle.std.specs.Prelude.{Result, IsErrAnd, IfErr, IsTrue, ◌↔◌}
+use Rattle.std.specs.Option.{is_some, option_or}
 use Rattle.std.proofs.lemmas.Bool.{ltb-false, le-ltb, ne_eqb, eqb-false, not-false}
 use Rattle.gft_base.proofs.Lemmas.{position-None, position-none_from}
 use Rattle.gft_text.specs.declared.name.NameError.{NameError}
@@ -41,6 +41,13 @@ faults name none =
       short = ltb-false _ _ short.0;
       foreign = foreign.0;
     }
+
+-- the test of a name: it has no fault
+pub no_fault : (name : List ℕ) (fault : Option ℕ) (none : Bool) → fault ≡ fault_of name → is_some fault ≡ not none → IsTrue none ↔ IsName name
+no_fault name None true is test = (λ h. faults name (sym is), λ legal. refl)
+no_fault name None false is test = absurd (cc test)
+no_fault name (Some at) true is test = absurd (cc test)
+no_fault name (Some at) false is test = (λ h. absurd (cc h), λ legal. absurd (cc (is, names name legal)))
 
 -- a name begins with no slash
 pub written : (name : List ℕ) → IsName name → WritesName name name

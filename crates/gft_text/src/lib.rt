@@ -17,9 +17,12 @@ mod tests;
 mod words;
 
 pub use host_port::{HostPort, read_host_port, write_host_port};
-pub use laws::{an_overlong_line, host_ports_have_one_value, names_have_one_value, no_line_yet, numbers_have_one_value, one_line};
+pub use laws::{
+    an_overlong_line, host_ports_have_one_value, names_have_one_value, no_line_yet,
+    numbers_have_one_value, one_line,
+};
 pub use lines::{Fed, LineError, Lines};
-pub use name::{Name, NameError, read_name};
+pub use name::{Name, NameError, is_name, read_name};
 pub use number::{BadNumber, read_number};
 pub use table::{Entry, Table};
 pub use words::Words;

@@ -1,4 +1,4 @@
-ghost use Rattle.std.specs.Prelude.{◌≡◌, IfOk, IfErr};
+ghost use Rattle.std.specs.Prelude.{◌≡◌, ◌↔◌, IsTrue, IfOk, IfErr};
 ghost use Rattle.gft_text.specs.Name.{IsName, Refuses, WritesName, bad_byte, fault_of, is_name_byte, without_slash};
 
 use gft_base::OutOfMemory;
@@ -67,6 +67,13 @@ impl Name {
         let bytes = self.bytes.clone()?;
         Ok(Name { bytes })
     }
+}
+
+/// Whether the text is a name as it stands: one leading `/` makes it none. It allocates nothing.
+pub fn is_name(text: &[u8]) -> bool
+    ensures { IsTrue result ↔ IsName text.now }
+{
+    fault_in(text).is_none()
 }
 
 /// Reads a name; one leading `/` is dropped.

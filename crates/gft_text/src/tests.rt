@@ -97,6 +97,7 @@ fn names_lose_one_slash(rt: HostRuntime) -> Result<(), Fail> {
     ];
     for (i, (text, name)) in rows.into_iter().enumerate() {
         assert_eq!(rt; name_in(rt.alloc(), text)?.as_slice(), name, "name {i}");
+        assert_eq!(rt; is_name(text), text == name, "name {i}");
     }
     Ok(())
 }
@@ -117,6 +118,7 @@ fn names_are_refused_at_the_first_fault(rt: HostRuntime) -> Result<(), Fail> {
         (&too_long, 200),
     ];
     for (i, (text, at)) in rows.into_iter().enumerate() {
+        assert!(rt; !is_name(text), "name {i}");
         match read_name(rt.alloc(), text) {
             Ok(_) => assert!(rt; false, "name {i} is taken"),
             Err(refusal) => assert_eq!(rt; refusal, NameError::BadName { at }, "name {i}"),
