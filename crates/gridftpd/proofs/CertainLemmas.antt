@@ -1,7 +1,6 @@
 -- A good input is refused by no line.
 use Rattle.std.proofs.Common.{◌≡◌, ℕ, ◌<◌, ◌⊎◌, List, [], ◌∷◌, ◌++◌, append_assoc, append-nil, length, take, Option, Some, None, IsSome, refl, sym, ap, ◌∙◌, subst, arith, inl, inr}
 use Rattle.std.proofs.lemmas.List.{take-append-le}
-use Rattle.gft_base.specs.Words.{Rose}
 use Rattle.gft_eblock.specs.Words.{Arrival, Refusal, At, Eof, Eod, Bad, eods, arrivals, data_at, IsUnfinished, HasEnded}
 use Rattle.gft_range.specs.declared.Range.{Range}
 use Rattle.gft_eblock.specs.declared.TheConstants.{MAX_BYTES}
@@ -10,11 +9,8 @@ use Rattle.gft_eod.specs.declared.EodError.{EodError}
 use Rattle.gridftpd.proofs.CountLemmas.{done_is_counted}
 use Rattle.gridftpd.specs.declared.outcome.Outcome.{Outcome}
 use Rattle.gridftpd.specs.declared.outcome.Outcome.TheVariants as outcome
-use Rattle.gridftpd.specs.declared.status.Status.{Status}
-use Rattle.gridftpd.specs.declared.status.Status.TheVariants as status
-use Rattle.gridftpd.specs.Status.{number_of, status_of}
 use Rattle.gridftpd.specs.Cause.{told_by, IsCause, IsLost, HasHole, IsFirstMissing, IsMiscounted, NeedsMoreRanges, EndsBad}
-use Rattle.gridftpd.specs.Drain.{IsTaken, IsTold, IsGood}
+use Rattle.gridftpd.specs.Drain.{IsTaken, IsGood, IsRefusal}
 use Rattle.gridftpd.proofs.DoneLemmas.{SaysDone, says_done}
 use Rattle.gridftpd.proofs.ArrivalLemmas.{eods-append}
 use Rattle.gridftpd.proofs.EndLemmas.{no_arrivals}
@@ -109,66 +105,19 @@ module _ (bytes stream rest : List ℕ) (all : bytes ≡ stream ++ rest) (good :
         full = needs.full;
       })
 
-  no_refusal : (ending : Outcome) → status.Refused ≡ status_of ending → IsCause ending stream (Some rest) → ((n : ℕ) → n < length stream → IsUnfinished (told_by (take n stream))) → ⊥
-  no_refusal outcome.Complete is cause in_time = cc
+  no_refusal : (ending : Outcome) → IsRefusal ending → IsCause ending stream (Some rest) → ((n : ℕ) → n < length stream → IsUnfinished (told_by (take n stream))) → ⊥
+  no_refusal outcome.Complete is cause in_time = is
   no_refusal (outcome.Lost taken) is cause in_time = not_lost taken cause
   no_refusal (outcome.Hole total number missing) is cause in_time = not_a_hole total number missing cause
   no_refusal (outcome.BadBlock bad) is cause in_time = not_bad _ cause
   no_refusal (outcome.CountRefused error) is cause in_time = not_miscounted error cause
   no_refusal outcome.TooLong is cause in_time = not_too_long in_time cause
   no_refusal (outcome.RangesFull kept) is cause in_time = not_full cause.1
-  no_refusal outcome.ReadFailed is cause in_time = cc
-  no_refusal outcome.DriveFailed is cause in_time = cc
-  no_refusal outcome.OutOfMemory is cause in_time = cc
+  no_refusal outcome.ReadFailed is cause in_time = is
+  no_refusal outcome.DriveFailed is cause in_time = is
+  no_refusal outcome.OutOfMemory is cause in_time = is
 
-pub refused_never : (bytes stream : List ℕ) (before after : Option (List ℕ)) (ending : Outcome) → before ≡ Some bytes → IsGood bytes → IsTaken before after stream → IsCause ending stream after → status.Refused ≡ status_of ending → ⊥
+pub refused_never : (bytes stream : List ℕ) (before after : Option (List ℕ)) (ending : Outcome) → before ≡ Some bytes → IsGood bytes → IsTaken before after stream → IsCause ending stream after → IsRefusal ending → ⊥
 refused_never bytes stream None after ending is good taken cause refused = cc
 refused_never bytes stream (Some known) None ending is good taken cause refused = taken.consumed
 refused_never bytes stream (Some known) (Some rest) ending is good taken cause refused = no_refusal bytes stream rest (let same : known ≡ bytes = cc in sym same ∙ taken.consumed) good ending refused cause taken.in_time
-
-read_by : (ending : Outcome) → status.ReadFailed ≡ status_of ending → ending ≡ outcome.ReadFailed
-read_by outcome.ReadFailed is = refl
-read_by outcome.Complete is = absurd (cc)
-read_by (outcome.Lost taken) is = absurd (cc)
-read_by (outcome.Hole total number missing) is = absurd (cc)
-read_by (outcome.BadBlock bad) is = absurd (cc)
-read_by (outcome.CountRefused error) is = absurd (cc)
-read_by outcome.TooLong is = absurd (cc)
-read_by (outcome.RangesFull kept) is = absurd (cc)
-read_by outcome.DriveFailed is = absurd (cc)
-read_by outcome.OutOfMemory is = absurd (cc)
-
-drive_by : (ending : Outcome) → status.DriveFailed ≡ status_of ending → ending ≡ outcome.DriveFailed
-drive_by outcome.DriveFailed is = refl
-drive_by outcome.Complete is = absurd (cc)
-drive_by (outcome.Lost taken) is = absurd (cc)
-drive_by (outcome.Hole total number missing) is = absurd (cc)
-drive_by (outcome.BadBlock bad) is = absurd (cc)
-drive_by (outcome.CountRefused error) is = absurd (cc)
-drive_by outcome.TooLong is = absurd (cc)
-drive_by (outcome.RangesFull kept) is = absurd (cc)
-drive_by outcome.ReadFailed is = absurd (cc)
-drive_by outcome.OutOfMemory is = absurd (cc)
-
-never_usage : (ending : Outcome) → status.Usage ≡ status_of ending → ⊥
-never_usage outcome.DriveFailed is = cc
-never_usage outcome.Complete is = cc
-never_usage (outcome.Lost taken) is = cc
-never_usage (outcome.Hole total number missing) is = cc
-never_usage (outcome.BadBlock bad) is = cc
-never_usage (outcome.CountRefused error) is = cc
-never_usage outcome.TooLong is = cc
-never_usage (outcome.RangesFull kept) is = cc
-never_usage outcome.ReadFailed is = cc
-never_usage outcome.OutOfMemory is = cc
-
--- a good input and no fault leave status 0, and want of memory
-pub certain_of : (ending : Outcome) (own : Status) (written told : Option (List ℕ)) (faults risen : ℕ) (read_rose drive_rose : Type 0) → IsTold ending own written told faults risen → (status.Refused ≡ status_of ending → ⊥)
-    → (ending ≡ outcome.ReadFailed → read_rose) → (ending ≡ outcome.DriveFailed → drive_rose) → ¬ read_rose → ¬ Rose faults risen → ¬ drive_rose → (number_of own ≡ 0) ⊎ (number_of own ≡ 6)
-certain_of ending status.Complete written told faults risen read_rose drive_rose is not_refused read drive no_read no_put no_drive = inl refl
-certain_of ending status.Refused written told faults risen read_rose drive_rose is not_refused read drive no_read no_put no_drive = absurd (not_refused is.0)
-certain_of ending status.Usage written told faults risen read_rose drive_rose is not_refused read drive no_read no_put no_drive = absurd (never_usage ending is.0)
-certain_of ending status.ReadFailed written told faults risen read_rose drive_rose is not_refused read drive no_read no_put no_drive = absurd (no_read (read (read_by ending is.0)))
-certain_of ending status.PutFailed written told faults risen read_rose drive_rose is not_refused read drive no_read no_put no_drive = absurd (no_put is)
-certain_of ending status.DriveFailed written told faults risen read_rose drive_rose is not_refused read drive no_read no_put no_drive = absurd (no_drive (drive (drive_by ending is.0)))
-certain_of ending status.OutOfMemory written told faults risen read_rose drive_rose is not_refused read drive no_read no_put no_drive = inr refl

@@ -1,30 +1,113 @@
--- Which outcome a status stands for.
-use Rattle.std.proofs.Common.{◌≡◌, ℕ, List, Option, refl}
+-- Which status an outcome is told by, and what that says of the counts.
+use Rattle.std.proofs.Common.{◌≡◌, ◌≢◌, ℕ, ◌⊎◌, List, Option, refl, sym, subst, inl, inr}
+use Rattle.std.specs.Io.KnownBytes.{Appends}
 use Rattle.gridftpd.specs.declared.outcome.Outcome.{Outcome}
 use Rattle.gridftpd.specs.declared.outcome.Outcome.TheVariants as outcome
 use Rattle.gridftpd.specs.declared.status.Status.{Status}
 use Rattle.gridftpd.specs.declared.status.Status.TheVariants as status
 use Rattle.gridftpd.specs.Status.{number_of, status_of}
-use Rattle.gridftpd.specs.Drain.{IsTold}
+use Rattle.gridftpd.specs.Line.{text_of}
+use Rattle.gridftpd.specs.Drain.{Answers, FaultCounts, NoneCounted, NoneRose, IsBlamed, IsMade, IsPut, IsRefusal, IsTold}
 
-complete_by : (ending : Outcome) → status.Complete ≡ status_of ending → ending ≡ outcome.Complete
-complete_by outcome.Complete is = refl
-complete_by (outcome.Lost taken) is = absurd (cc)
-complete_by (outcome.Hole total number missing) is = absurd (cc)
-complete_by (outcome.BadBlock bad) is = absurd (cc)
-complete_by (outcome.CountRefused error) is = absurd (cc)
-complete_by outcome.TooLong is = absurd (cc)
-complete_by (outcome.RangesFull kept) is = absurd (cc)
-complete_by outcome.ReadFailed is = absurd (cc)
-complete_by outcome.DriveFailed is = absurd (cc)
-complete_by outcome.OutOfMemory is = absurd (cc)
+-- which outcome a status stands for
+record StandsFor (ending : Outcome) (number : ℕ) : Type 0 where
+  pub complete : number ≡ 0 → ending ≡ outcome.Complete
+  pub refused : number ≡ 1 → IsRefusal ending
+  pub not_usage : number ≢ 2
 
--- status 0 stands for a transfer that is complete
-pub complete_of : (ending : Outcome) (own : Status) (before after : Option (List ℕ)) (faults risen : ℕ) → IsTold ending own before after faults risen → number_of own ≡ 0 → ending ≡ outcome.Complete
-complete_of ending status.Complete before after faults risen told zero = complete_by ending told.0
-complete_of ending status.Refused before after faults risen told zero = absurd (cc)
-complete_of ending status.Usage before after faults risen told zero = absurd (cc)
-complete_of ending status.ReadFailed before after faults risen told zero = absurd (cc)
-complete_of ending status.PutFailed before after faults risen told zero = absurd (cc)
-complete_of ending status.DriveFailed before after faults risen told zero = absurd (cc)
-complete_of ending status.OutOfMemory before after faults risen told zero = absurd (cc)
+stands_for : (ending : Outcome) → StandsFor ending (number_of (status_of ending))
+stands_for outcome.Complete = record { complete = λ zero. refl; refused = λ one. absurd (cc); not_usage = λ two. cc }
+stands_for (outcome.Lost taken) = record { complete = λ zero. absurd (cc); refused = λ one. tt; not_usage = λ two. cc }
+stands_for (outcome.Hole total number missing) = record { complete = λ zero. absurd (cc); refused = λ one. tt; not_usage = λ two. cc }
+stands_for (outcome.BadBlock bad) = record { complete = λ zero. absurd (cc); refused = λ one. tt; not_usage = λ two. cc }
+stands_for (outcome.CountRefused error) = record { complete = λ zero. absurd (cc); refused = λ one. tt; not_usage = λ two. cc }
+stands_for outcome.TooLong = record { complete = λ zero. absurd (cc); refused = λ one. tt; not_usage = λ two. cc }
+stands_for (outcome.RangesFull kept) = record { complete = λ zero. absurd (cc); refused = λ one. tt; not_usage = λ two. cc }
+stands_for outcome.ReadFailed = record { complete = λ zero. absurd (cc); refused = λ one. absurd (cc); not_usage = λ two. cc }
+stands_for outcome.DriveFailed = record { complete = λ zero. absurd (cc); refused = λ one. absurd (cc); not_usage = λ two. cc }
+stands_for outcome.OutOfMemory = record { complete = λ zero. absurd (cc); refused = λ one. absurd (cc); not_usage = λ two. cc }
+
+-- the status that was told, and its line for a refusal
+pub record Told (ending : Outcome) (number : ℕ) (before after : Option (List ℕ)) : Type 0 where
+  pub complete : number ≡ 0 → ending ≡ outcome.Complete
+  pub refused : number ≡ 1 → IsRefusal ending × Appends before after (text_of ending)
+  pub not_usage : number ≢ 2
+
+told_so : (ending : Outcome) (own : Status) (before after : Option (List ℕ)) (faults risen : ℕ) → IsTold ending own before after faults risen → Told ending (number_of own) before after
+told_so ending own before after faults risen (inl (inl put)) =
+    let own_is : Status = status_of ending in
+    let stands = stands_for ending in
+    subst (λ (s : Status). Told ending (number_of s) before after) (sym put.0)
+    (record { complete = stands.complete; refused = λ one. (stands.refused one, put.1); not_usage = stands.not_usage })
+told_so ending own before after faults risen (inl (inr failed)) =
+    subst (λ (s : Status). Told ending (number_of s) before after) (sym failed.0)
+    (record { complete = λ zero. absurd (cc); refused = λ one. absurd (cc); not_usage = λ two. cc })
+told_so ending own before after faults risen (inr (made, inl put)) =
+    subst (λ (s : Status). Told ending (number_of s) before after) (sym put.0)
+    (record { complete = λ zero. absurd (cc); refused = λ one. absurd (cc); not_usage = λ two. cc })
+told_so ending own before after faults risen (inr (made, inr failed)) =
+    subst (λ (s : Status). Told ending (number_of s) before after) (sym failed.0)
+    (record { complete = λ zero. absurd (cc); refused = λ one. absurd (cc); not_usage = λ two. cc })
+
+pub told_of : (ending : Outcome) (own : Status) (before after : Option (List ℕ)) (faults risen number : ℕ) → IsTold ending own before after faults risen → number ≡ number_of own → Told ending number before after
+told_of ending own before after faults risen number told is =
+    subst (λ (n : ℕ). Told ending n before after) (sym is) (told_so ending own before after faults risen told)
+
+-- ---- the counts
+
+-- an outcome whose line is made blames nobody
+made_blames_none : (ending : Outcome) (a b c d : ℕ) → IsMade ending → IsBlamed ending a b c d → (b ≡ a) × (d ≡ c)
+made_blames_none outcome.Complete a b c d made blamed = absurd made
+made_blames_none (outcome.Lost taken) a b c d made blamed = blamed
+made_blames_none (outcome.Hole total number missing) a b c d made blamed = blamed
+made_blames_none (outcome.BadBlock bad) a b c d made blamed = blamed
+made_blames_none (outcome.CountRefused error) a b c d made blamed = blamed
+made_blames_none outcome.TooLong a b c d made blamed = absurd made
+made_blames_none (outcome.RangesFull kept) a b c d made blamed = blamed
+made_blames_none outcome.ReadFailed a b c d made blamed = absurd made
+made_blames_none outcome.DriveFailed a b c d made blamed = absurd made
+made_blames_none outcome.OutOfMemory a b c d made blamed = blamed
+
+module _ (old new : FaultCounts) (before after : Option (List ℕ)) (output : new.output ≡ old.output) where
+  calm : (new.input ≡ old.input) × (new.drive ≡ old.drive) → NoneCounted old new
+  calm same = record { input = same.0; output = output; drive = same.1 }
+
+  own_answers : (ending : Outcome) → IsBlamed ending old.input new.input old.drive new.drive → Appends before after (text_of ending) → Answers (status_of ending) old new before after
+  own_answers outcome.Complete blamed line = (calm blamed, line)
+  own_answers (outcome.Lost taken) blamed line = calm blamed
+  own_answers (outcome.Hole total number missing) blamed line = calm blamed
+  own_answers (outcome.BadBlock bad) blamed line = calm blamed
+  own_answers (outcome.CountRefused error) blamed line = calm blamed
+  own_answers outcome.TooLong blamed line = calm blamed
+  own_answers (outcome.RangesFull kept) blamed line = calm blamed
+  own_answers outcome.ReadFailed blamed line = (blamed.0, output, blamed.1, line)
+  own_answers outcome.DriveFailed blamed line = (blamed.0, output, blamed.1, line)
+  own_answers outcome.OutOfMemory blamed line = (calm blamed, line)
+
+-- the status that an outcome is told by says so
+pub answers_of : (ending : Outcome) (own : Status) (old new : FaultCounts) (before after : Option (List ℕ)) → IsTold ending own before after old.output new.output → IsBlamed ending old.input new.input old.drive new.drive
+    → Answers own old new before after
+answers_of ending own old new before after (inl (inl put)) blamed =
+    subst (λ (s : Status). Answers s old new before after) (sym put.0) (own_answers old new before after put.2 ending blamed put.1)
+answers_of ending own old new before after (inl (inr failed)) blamed = subst (λ (s : Status). Answers s old new before after) (sym failed.0) failed.1
+answers_of ending own old new before after (inr (made, inl put)) blamed =
+    subst (λ (s : Status). Answers s old new before after) (sym put.0) (calm old new before after put.2 (made_blames_none ending old.input new.input old.drive new.drive made blamed), put.1)
+answers_of ending own old new before after (inr (made, inr failed)) blamed = subst (λ (s : Status). Answers s old new before after) (sym failed.0) failed.1
+
+-- other words blame nobody
+pub usage_answers : (own : Status) (line : List ℕ) (old new : FaultCounts) (before after : Option (List ℕ)) → (new.input ≡ old.input) × (new.drive ≡ old.drive)
+    → IsPut status.Usage line own before after old.output new.output → (NoneCounted old new → Appends before after line → Answers status.Usage old new before after) → Answers own old new before after
+usage_answers own line old new before after same (inl put) so =
+    subst (λ (s : Status). Answers s old new before after) (sym put.0) (so (calm old new before after put.2 same) put.1)
+usage_answers own line old new before after same (inr failed) so = subst (λ (s : Status). Answers s old new before after) (sym failed.0) failed.1
+
+-- where no count rose, what isn't refused is stored, or memory was
+pub certain_of : (own : Status) (old new : FaultCounts) (before after : Option (List ℕ)) → Answers own old new before after → NoneRose old new → number_of own ≢ 1 → number_of own ≢ 2
+    → (number_of own ≡ 0) ⊎ (number_of own ≡ 6)
+certain_of status.Complete old new before after answers none refused usage = inl refl
+certain_of status.Refused old new before after answers none refused usage = absurd (refused refl)
+certain_of status.Usage old new before after answers none refused usage = absurd (usage refl)
+certain_of status.ReadFailed old new before after answers none refused usage = absurd (none.input answers.0)
+certain_of status.PutFailed old new before after answers none refused usage = absurd (none.output answers)
+certain_of status.DriveFailed old new before after answers none refused usage = absurd (none.drive answers.2)
+certain_of status.OutOfMemory old new before after answers none refused usage = inr refl

@@ -3,7 +3,7 @@ use Rattle.std.proofs.Common.{◌≡◌, ◌<◌, ◌≤◌, ◌↔◌, Bool, Li
 use Rattle.std.specs.Prelude.{Result, IfOk, IsTrue, codes, String, string_bytes}
 use Rattle.std.specs.declared.alloc.Global.{Global}
 use Rattle.gft_text.specs.Words.{IsName}
-use Rattle.gridftpd.specs.Words.{AreDrainWords}
+use Rattle.gridftpd.specs.DrainWords.{AreDrainWords}
 
 -- a list of two
 pub two_items : {A : Type 0} (xs : List A) (a b : A) → 2 ≤ length xs → length xs < 3 → a ≡ get_or xs 0 a → b ≡ get_or xs 1 b → xs ≡ a ∷ b ∷ []

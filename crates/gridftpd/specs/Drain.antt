@@ -9,7 +9,7 @@ use Rattle.gft_drive.specs.declared.Part.TheVariants.{Bytes}
 use Rattle.gft_eblock.specs.declared.TheConstants.{MAX_BYTES}
 use Rattle.gridftpd.specs.Cause.{told_by, NeedsMoreRanges}
 use Rattle.gridftpd.specs.Events.{events_of, IsKept}
-use Rattle.gridftpd.specs.Line.{text_of, out_of_memory_text}
+use Rattle.gridftpd.specs.Line.{text_of, complete_text, drive_failed_text, out_of_memory_text, read_failed_text, usage_text}
 use Rattle.gridftpd.specs.Status.{status_of}
 use Rattle.gridftpd.specs.declared.outcome.Outcome.{Outcome}
 use Rattle.gridftpd.specs.declared.outcome.Outcome.TheVariants as outcome
@@ -29,15 +29,60 @@ IsStored stream old new = Done (events_of (told_by stream)) × Reads Bytes (λ b
 abbrev pub IsFile : List ℕ → List ℕ → List ℕ → Type 0
 IsFile source before after = after ≡ source
 
--- the line was put and the status is its own, or the put failed
+-- the line was put, the status is its own and no put failed; or the put failed
 abbrev pub IsPut : Status → List ℕ → Status → Option (List ℕ) → Option (List ℕ) → ℕ → ℕ → Type 0
-IsPut own line result before after faults risen = ((result ≡ own) × Appends before after line) ⊎ ((result ≡ status.PutFailed) × Rose faults risen)
+IsPut own line result before after faults risen =
+    ((result ≡ own) × Appends before after line × (risen ≡ faults)) ⊎ ((result ≡ status.PutFailed) × Rose faults risen)
 
--- what is printed for an outcome: its line; where memory for the line is refused, the line of that; where the put fails, the count of faults rose
+-- the line of this outcome is made, and so is of want of memory where memory for it is refused
+abbrev pub IsMade : Outcome → Type 0
+IsMade outcome.Complete = ⊥
+IsMade outcome.TooLong = ⊥
+IsMade outcome.ReadFailed = ⊥
+IsMade outcome.DriveFailed = ⊥
+IsMade other = Unit {0}
+
+-- what is printed for an outcome: its line, or that of want of memory
 abbrev pub IsTold : Outcome → Status → Option (List ℕ) → Option (List ℕ) → ℕ → ℕ → Type 0
-IsTold ending status.PutFailed before after faults risen = Rose faults risen
-IsTold ending status.OutOfMemory before after faults risen = Appends before after out_of_memory_text
-IsTold ending own before after faults risen = (own ≡ status_of ending) × Appends before after (text_of ending)
+IsTold ending own before after faults risen =
+    IsPut (status_of ending) (text_of ending) own before after faults risen
+    ⊎ (IsMade ending × IsPut status.OutOfMemory out_of_memory_text own before after faults risen)
+
+-- whose count of faults rose by an outcome: the input's, the drive's, or nobody's
+abbrev pub IsBlamed : Outcome → (input_before input_now drive_before drive_now : ℕ) → Type 0
+IsBlamed outcome.ReadFailed input_before input_now drive_before drive_now = Rose input_before input_now × (drive_now ≡ drive_before)
+IsBlamed outcome.DriveFailed input_before input_now drive_before drive_now = (input_now ≡ input_before) × Rose drive_before drive_now
+IsBlamed other input_before input_now drive_before drive_now = (input_now ≡ input_before) × (drive_now ≡ drive_before)
+
+-- the counts of faults of what `drain` stands on
+pub record FaultCounts : Type 0 where
+  pub input : ℕ
+  pub output : ℕ
+  pub drive : ℕ
+
+-- no fault was counted
+pub record NoneCounted (before now : FaultCounts) : Type 0 where
+  pub input : now.input ≡ before.input
+  pub output : now.output ≡ before.output
+  pub drive : now.drive ≡ before.drive
+
+-- no count rose
+pub record NoneRose (before now : FaultCounts) : Type 0 where
+  pub input : ¬ Rose before.input now.input
+  pub output : ¬ Rose before.output now.output
+  pub drive : ¬ Rose before.drive now.drive
+
+-- what a status says of the counts, and of the line that the output grew by; that of a refusal is its outcome's
+abbrev pub Answers : Status → FaultCounts → FaultCounts → Option (List ℕ) → Option (List ℕ) → Type 0
+Answers status.Complete old new before after = NoneCounted old new × Appends before after complete_text
+Answers status.Refused old new before after = NoneCounted old new
+Answers status.Usage old new before after = NoneCounted old new × Appends before after usage_text
+Answers status.ReadFailed old new before after =
+    Rose old.input new.input × (new.output ≡ old.output) × (new.drive ≡ old.drive) × Appends before after read_failed_text
+Answers status.PutFailed old new before after = Rose old.output new.output
+Answers status.DriveFailed old new before after =
+    (new.input ≡ old.input) × (new.output ≡ old.output) × Rose old.drive new.drive × Appends before after drive_failed_text
+Answers status.OutOfMemory old new before after = NoneCounted old new × Appends before after out_of_memory_text
 
 -- the outcomes that are refused by a 426 or a 452 line
 abbrev pub IsRefusal : Outcome → Type 0

@@ -6,4 +6,4 @@ pub mod Line
 pub mod Status
 pub mod Totals
 pub mod Turn
-pub mod Words
+pub mod DrainWords

@@ -1,13 +1,15 @@
-ghost use Rattle.std.specs.Prelude.{◌≡◌, ℕ, ◌≤◌, ◌⊎◌, List, Option, Some, None, IsSomeAnd, IfOk, OnErr, string_bytes};
+ghost use Rattle.std.specs.Prelude.{◌≡◌, ◌≢◌, ◌⊎◌, ℕ, List, Some, IsSomeAnd, IfOk, OnErr, string_bytes};
 ghost use Rattle.std.specs.Io.KnownBytes.{Appends};
-ghost use Rattle.gft_base.specs.Words.{Rose};
 ghost use Rattle.gft_drive.specs.Words.{Goes, Reads};
 ghost use Rattle.gft_drive.specs.declared.Part.TheVariants.{Bytes};
-ghost use Rattle.gridftpd.specs.Words.{AreDrainWords};
+ghost use Rattle.gridftpd.specs.DrainWords.{AreDrainWords, name_in};
 ghost use Rattle.gridftpd.specs.Cause.{IsCause, told_by};
-ghost use Rattle.gridftpd.specs.Drain.{IsTaken, IsStored, IsTold, IsPut, IsRefusal, IsHonest, IsFile, IsGood};
-ghost use Rattle.gridftpd.specs.Line.{usage_text, complete_text, text_of, read_failed_text, drive_failed_text, out_of_memory_text};
+ghost use Rattle.gridftpd.specs.Drain.{Answers, FaultCounts, NoneRose, IsBlamed, IsPut, IsRefusal, IsTold};
+ghost use Rattle.gridftpd.specs.Drain.{IsFile, IsGood, IsHonest, IsStored, IsTaken};
+ghost use Rattle.gridftpd.specs.Line.{usage_text, text_of, out_of_memory_text};
+ghost use Rattle.gridftpd.specs.Status.{number_of};
 ghost use Rattle.gridftpd.specs.declared.outcome.Outcome.{Outcome};
+ghost use Rattle.gridftpd.specs.declared.status.Status.{Status};
 
 use crate::intake::Intake;
 use crate::line::{
@@ -17,7 +19,7 @@ use crate::line::{
 use crate::outcome::Outcome;
 use crate::status::Status;
 use crate::words::are_drain_words;
-use gft_base::{Failed, OutOfMemory};
+use gft_base::Failed;
 use gft_drive::{Drive, Origin, Sink, Source};
 use gft_keep::{AttachError, Keep};
 use std::alloc::{AllocError, Global};
@@ -31,12 +33,17 @@ const READ_LEN: usize = 65_536;
 /// | Status | Line |
 /// |---|---|
 /// | 0 | `226 Transfer complete.`: the total is announced, its EODs came, and the data covers the file |
-/// | 1 | a 426 or 452 line: the input was lost, has a hole, a bad block, a count that is refused, too many bytes or too many ranges |
+/// | 1 | a 426 or 452 line: the input was lost, has a hole, a bad block, a count that is refused,
+/// too many bytes or too many ranges |
 /// | 2 | `usage: gridftpd drain NAME`: other words |
 /// | 3 | `451 Read failed.`: a read of the input failed |
 /// | 4 | a part of the line: a put failed |
 /// | 5 | `451 Drive failed.`: a call of the drive failed |
 /// | 6 | `455 Out of memory.` |
+///
+/// Each of 3, 4 and 5 comes only where a count of faults rose in this call, and no other status but
+/// 4 where one of the input or of the drive did: want of memory hides no fault. The drive comes back
+/// at every status; other words leave it and the input untouched.
 pub fn drain<I: Source, W: Sink, D: Drive + Drop, O: Origin>(
     alloc: Global,
     words: &[String],
@@ -45,42 +52,49 @@ pub fn drain<I: Source, W: Sink, D: Drive + Drop, O: Origin>(
     drive: D,
 ) -> (u8, Option<D>)
     requires open { W.is_open out.old }
+    // The drive is the file that the words name.
+    requires label { AreDrainWords words.now → (D.state drive).label ≡ name_in words.now }
 
-    // Status 0 only where the arrivals up to the EOD are done; then the file is the kept bytes, and the line says so.
-    ensures complete { result.0 ≡ 0 → (stream : List ℕ) × IsTaken (I.left input.old) (I.left input.new) stream
-        × IsSomeAnd result.1 (λ back. IsStored stream (D.state drive) (D.state back))
-        × Appends (W.written out.old) (W.written out.new) complete_text }
+    // Status 0 only where the arrivals up to the EOD are done; then the file is the kept bytes.
+    ensures complete { result.0 ≡ 0 → (stream : List ℕ)
+        × IsTaken (I.left input.old) (I.left input.new) stream
+        × IsSomeAnd result.1 (λ back. IsStored stream (D.state drive) (D.state back)) }
 
     // Status 1 only with the line of an outcome that the bytes taken show.
-    ensures refused { result.0 ≡ 1 → (outcome : Outcome) × (stream : List ℕ) × IsTaken (I.left input.old) (I.left input.new) stream
+    ensures refused { result.0 ≡ 1 → (outcome : Outcome) × (stream : List ℕ)
+        × IsTaken (I.left input.old) (I.left input.new) stream
         × IsRefusal outcome × IsCause outcome stream (I.left input.new)
         × Appends (W.written out.old) (W.written out.new) (text_of outcome) }
 
-    ensures usage { result.0 ≡ 2 → ¬ AreDrainWords words.now × Appends (W.written out.old) (W.written out.new) usage_text }
-    ensures read_failed { result.0 ≡ 3 → Rose (I.faults input.old) (I.faults input.new) × Appends (W.written out.old) (W.written out.new) read_failed_text }
-    ensures put_failed { result.0 ≡ 4 → Rose (W.faults out.old) (W.faults out.new) }
-    ensures drive_failed { result.0 ≡ 5 → IsSomeAnd result.1 (λ back. Rose (D.state drive).faults (D.state back).faults)
-        × Appends (W.written out.old) (W.written out.new) drive_failed_text }
-    ensures memory { result.0 ≡ 6 → Appends (W.written out.old) (W.written out.new) out_of_memory_text }
-    ensures statuses { result.0 ≤ 6 }
+    // Each status has its line, and its faults: none is passed over.
+    ensures told { (status : Status) × (result.0 ≡ number_of status)
+        × IsSomeAnd result.1 (λ back. Answers status
+            (record { input = I.faults input.old; output = W.faults out.old; drive = (D.state drive).faults })
+            (record { input = I.faults input.new; output = W.faults out.new; drive = (D.state back).faults })
+            (W.written out.old) (W.written out.new)) }
 
-    // Other words touch nothing but the line; else the drive comes back.
-    ensures other_words { ¬ AreDrainWords words.now → ((result.0 ≡ 2) ⊎ (result.0 ≡ 4)) × (result.1 ≡ None) × (input.new ≡ input.old) }
-    ensures back { AreDrainWords words.now → IsSomeAnd result.1 (λ back. Goes (D.state drive) (D.state back)) }
+    // Other words touch nothing but the line.
+    ensures other_words { ¬ AreDrainWords words.now
+        → ((result.0 ≡ 2) ⊎ (result.0 ≡ 4)) × (result.1 ≡ Some drive) × (input.new ≡ input.old) }
+    ensures right_words { AreDrainWords words.now
+        → (result.0 ≢ 2) × IsSomeAnd result.1 (λ back. Goes (D.state drive) (D.state back)) }
 
     // A good input is stored where no fault was counted, unless memory was refused.
-    ensures certain { (bytes : List ℕ) → AreDrainWords words.now → I.left input.old ≡ Some bytes → IsGood bytes
-        → ¬ Rose (I.faults input.old) (I.faults input.new) → ¬ Rose (W.faults out.old) (W.faults out.new)
-        → ¬ IsSomeAnd result.1 (λ back. Rose (D.state drive).faults (D.state back).faults) → (result.0 ≡ 0) ⊎ (result.0 ≡ 6) }
+    ensures certain { AreDrainWords words.now
+        → (bytes : List ℕ) → I.left input.old ≡ Some bytes → IsGood bytes
+        → IsSomeAnd result.1 (λ back. NoneRose
+            (record { input = I.faults input.old; output = W.faults out.old; drive = (D.state drive).faults })
+            (record { input = I.faults input.new; output = W.faults out.new; drive = (D.state back).faults }))
+        → (result.0 ≡ 0) ⊎ (result.0 ≡ 6) }
 
     // From an honest sender of a named source, status 0 comes only with the equal file.
-    ensures equal { (source bytes : List ℕ) → O.source (D.state drive).label ≡ Some source → I.left input.old ≡ Some bytes → IsHonest source (told_by bytes)
-        → result.0 ≡ 0 → IsSomeAnd result.1 (λ back. Reads Bytes (IsFile source) (D.state drive) (D.state back)) }
+    ensures equal { (source bytes : List ℕ) → O.source (D.state drive).label ≡ Some source
+        → I.left input.old ≡ Some bytes → IsHonest source (told_by bytes)
+        → result.0 ≡ 0
+        → IsSomeAnd result.1 (λ back. Reads Bytes (IsFile source) (D.state drive) (D.state back)) }
 {
-    match are_drain_words(alloc, words) {
-        Ok(true) => {}
-        Ok(false) => return (refuse_words(out).number(), None),
-        Err(OutOfMemory) => return (refuse_memory(out).number(), Some(drive)),
+    if !are_drain_words(words) {
+        return (refuse_words(out).number(), Some(drive));
     }
     let (outcome, drive) = store_input(alloc, input, drive);
     (tell(alloc, out, &outcome).number(), Some(drive))
@@ -88,10 +102,11 @@ pub fn drain<I: Source, W: Sink, D: Drive + Drop, O: Origin>(
 
 /// Stores what comes from the input as the drive's file, and gives the drive back.
 fn store_input<I: Source, D: Drive + Drop>(alloc: Global, input: &mut I, drive: D) -> (Outcome, D)
-    ensures caused { (stream : List ℕ) × IsTaken (I.left input.old) (I.left input.new) stream × IsCause result.0 stream (I.left input.new)
+    ensures caused { (stream : List ℕ) × IsTaken (I.left input.old) (I.left input.new) stream
+        × IsCause result.0 stream (I.left input.new)
         × (result.0 ≡ Outcome.Complete → IsStored stream (D.state drive) (D.state result.1)) }
-    ensures read_failed { result.0 ≡ Outcome.ReadFailed → Rose (I.faults input.old) (I.faults input.new) }
-    ensures drive_failed { result.0 ≡ Outcome.DriveFailed → Rose (D.state drive).faults (D.state result.1).faults }
+    ensures blamed { IsBlamed result.0 (I.faults input.old) (I.faults input.new)
+        (D.state drive).faults (D.state result.1).faults }
     ensures goes { Goes (D.state drive) (D.state result.1) }
 {
     let Ok(mut buf) = vec![in alloc; 0u8; READ_LEN] else {
@@ -112,7 +127,8 @@ fn store_input<I: Source, D: Drive + Drop>(alloc: Global, input: &mut I, drive: 
 /// Prints the line of an outcome, and gives its status.
 pub(crate) fn tell<W: Sink>(alloc: Global, out: &mut W, outcome: &Outcome) -> Status
     requires open { W.is_open out.old }
-    ensures { IsTold outcome.now result (W.written out.old) (W.written out.new) (W.faults out.old) (W.faults out.new) }
+    ensures { IsTold outcome.now result (W.written out.old) (W.written out.new)
+        (W.faults out.old) (W.faults out.new) }
 {
     match *outcome {
         Outcome::Complete => put(out, complete_line(), Status::Complete),
@@ -134,14 +150,16 @@ pub(crate) fn tell<W: Sink>(alloc: Global, out: &mut W, outcome: &Outcome) -> St
 
 fn refuse_words<W: Sink>(out: &mut W) -> Status
     requires open { W.is_open out.old }
-    ensures { IsPut Status.Usage usage_text result (W.written out.old) (W.written out.new) (W.faults out.old) (W.faults out.new) }
+    ensures { IsPut Status.Usage usage_text result (W.written out.old) (W.written out.new)
+        (W.faults out.old) (W.faults out.new) }
 {
     put(out, usage_line(), Status::Usage)
 }
 
 fn refuse_memory<W: Sink>(out: &mut W) -> Status
     requires open { W.is_open out.old }
-    ensures { IsPut Status.OutOfMemory out_of_memory_text result (W.written out.old) (W.written out.new) (W.faults out.old) (W.faults out.new) }
+    ensures { IsPut Status.OutOfMemory out_of_memory_text result (W.written out.old) (W.written out.new)
+        (W.faults out.old) (W.faults out.new) }
 {
     put(out, out_of_memory_line(), Status::OutOfMemory)
 }
@@ -149,8 +167,10 @@ fn refuse_memory<W: Sink>(out: &mut W) -> Status
 /// Puts the line of a refusal, or where memory for it was refused the line of that.
 fn put_made<W: Sink>(out: &mut W, made: Result<String, AllocError>) -> Status
     requires open { W.is_open out.old }
-    ensures made { IfOk made (λ line. IsPut Status.Refused (string_bytes line) result (W.written out.old) (W.written out.new) (W.faults out.old) (W.faults out.new)) }
-    ensures refused { OnErr made (IsPut Status.OutOfMemory out_of_memory_text result (W.written out.old) (W.written out.new) (W.faults out.old) (W.faults out.new)) }
+    ensures made { IfOk made (λ line. IsPut Status.Refused (string_bytes line) result
+        (W.written out.old) (W.written out.new) (W.faults out.old) (W.faults out.new)) }
+    ensures refused { OnErr made (IsPut Status.OutOfMemory out_of_memory_text result
+        (W.written out.old) (W.written out.new) (W.faults out.old) (W.faults out.new)) }
 {
     match made {
         Ok(line) => put(out, line.as_bytes(), Status::Refused),
@@ -161,7 +181,8 @@ fn put_made<W: Sink>(out: &mut W, made: Result<String, AllocError>) -> Status
 /// Puts a line, and gives the status that it stands for, or that of a put that failed.
 fn put<W: Sink>(out: &mut W, line: &[u8], status: Status) -> Status
     requires open { W.is_open out.old }
-    ensures { IsPut status line.now result (W.written out.old) (W.written out.new) (W.faults out.old) (W.faults out.new) }
+    ensures { IsPut status line.now result (W.written out.old) (W.written out.new)
+        (W.faults out.old) (W.faults out.new) }
 {
     match out.put(line) {
         Ok(()) => status,
