@@ -40,17 +40,21 @@ pub record OnPart (part : Part) (step : List ℕ → List ℕ → Type 0) (old n
 
 -- what a read gives changes by this step, where the drive tells it
 abbrev pub ReadsBy : (Image → Image → Type 0) → DriveState → DriveState → Type 0
-ReadsBy step old new = (from : Image) → old.contents ≡ Some from → (image : Image) × (new.contents ≡ Some image) × step from image
+ReadsBy step old new =
+    (from : Image) → old.contents ≡ Some from
+    → (image : Image) × (new.contents ≡ Some image) × step from image
 
 -- what a read of one part gives changes by this step, and the other part stays
 abbrev pub Reads : Part → (List ℕ → List ℕ → Type 0) → DriveState → DriveState → Type 0
 Reads part step old new = ReadsBy (OnPart part step) old new
 
 abbrev pub HasLength : Part → DriveState → ℕ → Type 0
-HasLength part drive n = (image : Image) → drive.contents ≡ Some image → n ≡ length (part_of part image)
+HasLength part drive n =
+    (image : Image) → drive.contents ≡ Some image → n ≡ length (part_of part image)
 
 -- the first n bytes of the buffer are those from this place on, fewer than asked only at the end
 abbrev pub HasRead : Part → ℕ → List ℕ → DriveState → ℕ → Type 0
 HasRead part at buf drive n =
     (image : Image) → drive.contents ≡ Some image
-    → (n ≡ min (length buf) (length (part_of part image) - at)) × (take n buf ≡ take n (drop at (part_of part image)))
+    → (n ≡ min (length buf) (length (part_of part image) - at))
+    × (take n buf ≡ take n (drop at (part_of part image)))

@@ -1,12 +1,12 @@
 -- What a source over a reader and a sink over a writer show.
 use Rattle.std.specs.Prelude.{ℕ, Bool, List, Option}
 
-pub record Reading : Type 0 where
+pub record OnReader : Type 0 where
   -- the bytes that the reader has left, where it tells them
   pub left : Option (List ℕ)
   pub faults : ℕ
 
-pub record Writing : Type 0 where
+pub record OnWriter : Type 0 where
   -- the bytes that the writer holds, where it tells them
   pub written : Option (List ℕ)
   -- no put has failed

@@ -1,4 +1,6 @@
-ghost use Rattle.std.specs.Prelude.{◌≡◌, ◌+◌, ◌-◌, ◌<◌, ◌≤◌, min, max, [], ◌∷◌, ◌++◌, length, take, drop, ◌^◌, ◌↔◌, ℕ, slice_get, slice_index, vec_capacity, IfOk, OnOk, OnErr, IsOk};
+ghost use Rattle.std.specs.Prelude.{◌≡◌, ◌+◌, ◌-◌, ◌<◌, ◌≤◌, ◌^◌, ◌↔◌, ℕ, min, max};
+ghost use Rattle.std.specs.Prelude.{[], ◌∷◌, ◌++◌, length, take, drop, slice_get, slice_index, vec_capacity};
+ghost use Rattle.std.specs.Prelude.{IfOk, OnOk, OnErr, IsOk};
 ghost use Rattle.gft_base.specs.Words.{HasCause};
 ghost use Rattle.gft_drive.specs.Memory.{IsNew};
 ghost use Rattle.gft_drive.specs.Write.{Written};
@@ -10,8 +12,8 @@ use gft_base::{Failed, Faults, OutOfMemory};
 use std::alloc::Global;
 use std::marker::Model;
 
-/// How many calls are kept at most.
-const KEPT_CALLS: u32 = 65_536;
+/// The most calls that are kept.
+const MAX_KEPT_CALLS: u32 = 65_536;
 
 /// A drive in memory, which tells its contents. It takes its memory when it is made.
 #[derive(Drop)]
@@ -31,7 +33,15 @@ impl Model for MemoryDrive {
 
     ghost Value = { Memory };
 
-    ghost view = { λ d. record { label = d.label.items; image = record { bytes = d.bytes.items; ranges = d.ranges.items }; calls = d.calls.items; faults = d.faults; capacity = d.capacity; calls_left = d.calls_left; failing = d.failing.items } };
+    ghost view = { λ d. record {
+      label = d.label.items;
+      image = record { bytes = d.bytes.items; ranges = d.ranges.items };
+      calls = d.calls.items;
+      faults = d.faults;
+      capacity = d.capacity;
+      calls_left = d.calls_left;
+      failing = d.failing.items;
+    } };
 }
 
 // A write doesn't fit.
@@ -64,7 +74,7 @@ impl MemoryDrive {
             capacity,
             calls_left: calls,
             failing: Vec::from_slice(alloc, failing)?,
-            calls: Vec::with_capacity(alloc, calls.min(KEPT_CALLS) as usize)?,
+            calls: Vec::with_capacity(alloc, calls.min(MAX_KEPT_CALLS) as usize)?,
             faults: Faults::new(),
         })
     }
@@ -102,9 +112,10 @@ impl MemoryDrive {
         ensures label { self.new.label ≡ self.old.label }
         ensures image { self.new.image ≡ self.old.image }
         ensures left { OnOk result (self.old.calls_left ≡ self.new.calls_left + 1) }
-        ensures kept { OnOk result (length self.old.calls < KEPT_CALLS
-            → self.new.calls ≡ self.old.calls ++ record { call = kind; part = part; at = at; len = len } ∷ []) }
-        ensures unkept { KEPT_CALLS ≤ length self.old.calls → self.new.calls ≡ self.old.calls }
+        ensures kept { OnOk result (length self.old.calls < MAX_KEPT_CALLS
+            → self.new.calls
+            ≡ self.old.calls ++ record { call = kind; part = part; at = at; len = len } ∷ []) }
+        ensures unkept { MAX_KEPT_CALLS ≤ length self.old.calls → self.new.calls ≡ self.old.calls }
         ensures cause { HasCause self.old.faults self.new.faults result }
     {
         if self.calls_left == 0 {
@@ -117,7 +128,7 @@ impl MemoryDrive {
             at,
             len,
         };
-        let is_kept = self.calls.len() >= KEPT_CALLS as usize || self.calls.push(call).is_ok();
+        let is_kept = self.calls.len() >= MAX_KEPT_CALLS as usize || self.calls.push(call).is_ok();
         if count_down(&mut self.failing, kind, part) || !is_kept {
             return Err(self.faults.rise());
         }
@@ -141,7 +152,8 @@ impl MemoryDrive {
 impl Drive for MemoryDrive {
     ghost use Rattle.std.specs.Prelude.{Some};
 
-    ghost state = { λ drive. record { label = drive.label; contents = Some drive.image; faults = drive.faults } };
+    ghost state = { λ drive.
+        record { label = drive.label; contents = Some drive.image; faults = drive.faults } };
 
     fn len(&mut self, part: Part) -> Result<u64, Failed> {
         self.begin(CallKind::Len, part, 0, 0)?;
@@ -223,7 +235,8 @@ fn overwrite(bytes: &mut Vec<u8>, room: u64, at: u64, new: &[u8]) -> Result<(), 
     ensures written { OnOk result (Written at new.now bytes.old.items bytes.new.items) }
     ensures failed { OnErr result (bytes.new.items ≡ bytes.old.items) }
     ensures room { OnOk result (at + length new.now ≤ room) }
-    ensures reserved { at + length new.now ≤ room → room ≤ vec_capacity bytes.old → room < 2 ^ 64 → IsOk result }
+    ensures reserved { at + length new.now ≤ room → room ≤ vec_capacity bytes.old → room < 2 ^ 64
+        → IsOk result }
 {
     let Some(end) = at.checked_add(new.len() as u64) else {
         return Err(NoRoom);

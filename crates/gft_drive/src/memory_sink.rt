@@ -21,14 +21,21 @@ impl Model for MemorySink {
 
     ghost Value = { Taken };
 
-    ghost view = { λ s. record { written = s.bytes.items; room = s.room; failing = s.failing.items; is_open = s.is_open; faults = s.faults } };
+    ghost view = { λ s. record {
+      written = s.bytes.items;
+      room = s.room;
+      failing = s.failing.items;
+      is_open = s.is_open;
+      faults = s.faults;
+    } };
 }
 
 impl MemorySink {
     /// An empty sink with room for this many bytes. A put past the room fails, as do the puts
     /// whose number, counted from 1, is in `failing`: a put that fails puts nothing.
     pub fn new(alloc: Global, room: usize, failing: Vec<u32>) -> Result<MemorySink, OutOfMemory>
-        ensures { IfOk result (λ sink. sink ≡ record { written = []; room = room; failing = failing.items; is_open = true; faults = 0 }) }
+        ensures { IfOk result (λ sink. sink ≡
+            record { written = []; room = room; failing = failing.items; is_open = true; faults = 0 }) }
     {
         Ok(MemorySink {
             bytes: Vec::with_capacity(alloc, room)?,

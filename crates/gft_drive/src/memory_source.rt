@@ -21,7 +21,13 @@ impl Model for MemorySource {
 
     ghost Value = { Given };
 
-    ghost view = { λ s. record { left = drop s.at s.bytes.items; most = s.most; failing = s.failing.items; reads = s.reads; faults = s.faults } };
+    ghost view = { λ s. record {
+      left = drop s.at s.bytes.items;
+      most = s.most;
+      failing = s.failing.items;
+      reads = s.reads;
+      faults = s.faults;
+    } };
 
     ghost invariant = { λ s. (s.at ≤ length s.bytes.items) × (0 < s.most) };
 }
@@ -30,7 +36,8 @@ impl MemorySource {
     /// A source of these bytes. The reads whose number, counted from 1, is in `failing` fail.
     pub fn new(bytes: Vec<u8>, most: usize, failing: Vec<u32>) -> Self
         requires { 0 < most }
-        ensures { result ≡ record { left = bytes.items; most = most; failing = failing.items; reads = 0; faults = 0 } }
+        ensures { result ≡
+            record { left = bytes.items; most = most; failing = failing.items; reads = 0; faults = 0 } }
     {
         MemorySource {
             bytes,

@@ -19,9 +19,9 @@ pub struct ReadSource<R: Read + Drop> {
 }
 
 impl<R: Read + Drop> Model for ReadSource<R> {
-    ghost use Rattle.gft_drive.specs.Streams.{Reading};
+    ghost use Rattle.gft_drive.specs.Streams.{OnReader};
 
-    ghost Value = { Reading };
+    ghost Value = { OnReader };
 
     ghost view = { λ s. record { left = R.remaining s.reader; faults = s.faults } };
 }
@@ -61,9 +61,9 @@ pub struct WriteSink<W: Write + Drop> {
 }
 
 impl<W: Write + Drop> Model for WriteSink<W> {
-    ghost use Rattle.gft_drive.specs.Streams.{Writing};
+    ghost use Rattle.gft_drive.specs.Streams.{OnWriter};
 
-    ghost Value = { Writing };
+    ghost Value = { OnWriter };
 
     ghost view = { λ s. record { written = W.contents s.writer; is_open = s.is_open; faults = s.faults } };
 }

@@ -1,7 +1,7 @@
+use crate::RANGES_LEN;
 use crate::drive::{Drive, Part};
 use crate::failures::{CallKind, DriveCall, FailAt};
 use crate::file::FileDrive;
-use crate::RANGES_LEN;
 use crate::memory::MemoryDrive;
 use crate::memory_sink::MemorySink;
 use crate::memory_source::MemorySource;
@@ -10,7 +10,7 @@ use crate::source::Source;
 use crate::streams::{ReadSource, WriteSink};
 use std::alloc::Global;
 use std::fs::File;
-use std::io::{ErrorKind, Read};
+use std::io::{ErrorKind, Read, Write};
 use std::test::Fail;
 use std::{fs, io, thread};
 
@@ -131,6 +131,26 @@ impl Read for Interrupted {
     }
 }
 
+/// Holds bytes until it is flushed: how many wait, and how many were passed on.
+#[derive(Drop)]
+struct Held {
+    waiting: usize,
+    passed: usize,
+}
+
+impl Write for Held {
+    fn write(&mut self, buf: &[u8]) -> io::Result<usize> {
+        self.waiting = self.waiting.saturating_add(buf.len());
+        Ok(buf.len())
+    }
+
+    fn flush(&mut self) -> io::Result<()> {
+        self.passed = self.passed.saturating_add(self.waiting);
+        self.waiting = 0;
+        Ok(())
+    }
+}
+
 #[test]
 fn a_stream_is_read_and_written(rt: HostRuntime) -> Result<(), Fail> {
     let mut buf = [0u8; 4];
@@ -151,6 +171,14 @@ fn a_stream_is_read_and_written(rt: HostRuntime) -> Result<(), Fail> {
     }
     drop(sink);
     assert_eq!(rt; written.as_slice(), b"abcd".as_slice());
+    let mut held = Held {
+        waiting: 0,
+        passed: 0,
+    };
+    let mut sink = WriteSink::new(&mut held);
+    assert!(rt; sink.put(b"abc").is_ok());
+    drop(sink);
+    assert_eq!(rt; (held.waiting, held.passed), (0, 3));
     Ok(())
 }
 
@@ -172,5 +200,14 @@ fn a_file_is_a_drive(rt: HostRuntime) -> Result<(), Fail> {
     fs::remove_file(&rt, "file.dat")?;
     let absent = String::from_str(rt.alloc(), "absent/file.dat")?;
     assert!(rt; FileDrive::at(rt.clone()?, absent).len(Part::Bytes).is_err());
+    // A folder that can't be synced: the file opens, and each call fails, not the first alone.
+    let unsynced = "/proc/self/comm";
+    let opened = File::options().read(true).write(true).open(&rt, unsynced);
+    assert!(rt; opened.is_ok());
+    let path = String::from_str(rt.alloc(), unsynced)?;
+    let mut drive = FileDrive::at(rt.clone()?, path);
+    for _ in 0..2 {
+        assert!(rt; drive.len(Part::Bytes).is_err());
+    }
     Ok(())
 }
