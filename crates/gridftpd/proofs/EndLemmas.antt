@@ -13,7 +13,7 @@ use Rattle.gft_range.specs.Words.{HasOffset, KeptRanges, IsFirstGap, HasNoGap}
 use Rattle.gft_drive.specs.Words.{DriveState, Reads, Same, CutTo}
 use Rattle.gft_drive.specs.declared.Part.TheVariants.{Bytes}
 use Rattle.gft_drive.proofs.Lemmas.{Reads-then}
-use Rattle.gft_keep.specs.Words.{IsFull, Finishes, block_of}
+use Rattle.gft_keep.specs.Words.{keep_of, IsFull, Finishes, block_of}
 use Rattle.gft_eblock.specs.declared.BadBlock.{BadBlock}
 use Rattle.gft_eblock.specs.declared.Step.{Step}
 use Rattle.gft_eblock.specs.declared.Event.TheVariants as event
@@ -96,12 +96,12 @@ module _ {D : Type 0} (state : D → DriveState) (start : DriveState) (stream : 
       }
 
   -- the EOD came
-  missing_from : (list : List Arrival) (missing : Option Range) → ((x : ℕ) → HasOffset intake.keep.set.ranges x ↔ Arrives list x) → IfSome missing (IsFirstGap intake.keep.set.ranges) → IfNone missing (HasNoGap intake.keep.set.ranges) → IsFirstMissing list missing
+  missing_from : (list : List Arrival) (missing : Option Range) → ((x : ℕ) → HasOffset (keep_of state intake.keep).ranges x ↔ Arrives list x) → IfSome missing (IsFirstGap (keep_of state intake.keep).ranges) → IfNone missing (HasNoGap (keep_of state intake.keep).ranges) → IsFirstMissing list missing
   missing_from list None offsets some none = λ x y lt came. (offsets x).0 (none x y lt ((offsets y).1 came))
   missing_from list (Some gap) offsets some none = (some.non_empty, λ x lt. (offsets x).0 (some.below x lt), λ x inside came. some.inside x inside ((offsets x).1 came), (offsets gap.end).0 some.behind)
 
   pub hole_from : (left : Option (List ℕ)) (missing : Option Range) → Follows state start 1 stream intake → channel.IsDone intake.channel
-      → IfSome missing (IsFirstGap intake.keep.set.ranges) → IfNone missing (HasNoGap intake.keep.set.ranges) → (intake.count.total ≢ Some intake.count.eods) ⊎ IsSome missing
+      → IfSome missing (IsFirstGap (keep_of state intake.keep).ranges) → IfNone missing (HasNoGap (keep_of state intake.keep).ranges) → (intake.count.total ≢ Some intake.count.eods) ⊎ IsSome missing
       → HasHole stream left intake.count.total intake.count.eods missing
   hole_from left missing follows done some none why =
       let told = told_all follows done in
@@ -113,7 +113,7 @@ module _ {D : Type 0} (state : D → DriveState) (start : DriveState) (stream : 
         why = why;
       }
 
-  pub done_from : (end : ℕ) → Follows state start 1 stream intake → channel.IsDone intake.channel → IsMet intake.count → IsCount intake.count → ((x : ℕ) → HasOffset intake.keep.set.ranges x ↔ (x < end)) → Done (events_of (told_by stream))
+  pub done_from : (end : ℕ) → Follows state start 1 stream intake → channel.IsDone intake.channel → IsMet intake.count → IsCount intake.count → ((x : ℕ) → HasOffset (keep_of state intake.keep).ranges x ↔ (x < end)) → Done (events_of (told_by stream))
   done_from end follows done met sound below =
       let first : first_of (totals follows.told) ≡ Some intake.count.eods = sym follows.counted.total ∙ met in
       let within = subst (λ (total : Option ℕ). IsWithin total intake.count.eods) met sound in
@@ -136,12 +136,12 @@ module _ {D : Type 0} (state : D → DriveState) (start : DriveState) (stream : 
         none_kept told x (λ came. let lt = within x came in omega arith) ∙ sym (slice_get_past cut x (omega (arith, finishes.size)))
   ]
 
-  pub stored_from : (end : ℕ) (new : DriveState) → Follows state start 1 stream intake → channel.IsDone intake.channel → IsMet intake.count → IsCount intake.count → ((x : ℕ) → HasOffset intake.keep.set.ranges x ↔ (x < end))
-      → Reads Bytes (Finishes end) (state intake.keep.drive) new → IsStored stream start new
+  pub stored_from : (end : ℕ) (new : DriveState) → Follows state start 1 stream intake → channel.IsDone intake.channel → IsMet intake.count → IsCount intake.count → ((x : ℕ) → HasOffset (keep_of state intake.keep).ranges x ↔ (x < end))
+      → Reads Bytes (Finishes end) (keep_of state intake.keep).drive new → IsStored stream start new
   stored_from end new follows done met sound below finished =
       let told = told_all follows done in (
         done_from end follows done met sound below,
-        Reads-then Bytes (HasKeptIn follows.told intake.keep.set.ranges) (Finishes end) (λ before after. IsKept (events_of (told_by stream)) after) start (state intake.keep.drive) new follows.kept finished
+        Reads-then Bytes (HasKeptIn follows.told (keep_of state intake.keep).ranges) (Finishes end) (λ before after. IsKept (events_of (told_by stream)) after) start (keep_of state intake.keep).drive new follows.kept finished
             (λ xs ys zs kept finishes. subst (λ (list : List Arrival). IsKept (events_of list) zs) (sym told)
             (kept_file follows.told end ys zs (λ x came. (below x).0 ((follows.offsets x).1 came)) (λ x lt. kept x ((below x).1 lt)) finishes)),
       )
@@ -185,7 +185,7 @@ module _ {D : Type 0} (state : D → DriveState) (start : DriveState) (stream : 
       }
 
   pub ranges_from : (piece : List ℕ) (step : Step) (after : Reader) (offset : ℕ) (bytes : Bor (List ℕ)) → Follows state start 0 stream intake → Advances intake.channel piece step after → step.used ≡ length piece
-      → step.event ≡ Some (event.Piece offset bytes) → IsFull intake.keep.set.ranges (block_of offset bytes.now) → NeedsMoreRanges (told_by (stream ++ piece))
+      → step.event ≡ Some (event.Piece offset bytes) → IsFull (keep_of state intake.keep).ranges (block_of offset bytes.now) → NeedsMoreRanges (told_by (stream ++ piece))
   ranges_from piece step after offset bytes follows advances all is full =
       let came : to_come intake.channel piece ≡ data_at offset bytes.now ++ to_come after [] = rw is at (came_of piece step after advances all) in
       record {
@@ -194,7 +194,7 @@ module _ {D : Type 0} (state : D → DriveState) (start : DriveState) (stream : 
         bytes = bytes.now;
         later = to_come after [];
         split = follows.carried piece ∙ ap (λ rest. follows.told ++ rest) came;
-        ranges = intake.keep.set.ranges;
+        ranges = (keep_of state intake.keep).ranges;
         offsets = follows.offsets;
         full = full;
       }

@@ -12,7 +12,7 @@ use Rattle.gft_range.proofs.Lemmas.{HasOffset-or}
 use Rattle.gft_drive.specs.Words.{DriveState, Goes, Reads}
 use Rattle.gft_drive.specs.declared.Part.TheVariants.{Bytes}
 use Rattle.gft_drive.proofs.Lemmas.{Goes-refl, Goes-then, Reads-same, Reads-then, Reads-weaker}
-use Rattle.gft_keep.specs.Words.{Holds, Stores, block_of}
+use Rattle.gft_keep.specs.Words.{IsWhole, keep_of, Holds, Stores, block_of}
 use Rattle.gft_eblock.specs.declared.Step.{Step}
 use Rattle.gft_eblock.specs.declared.Event.TheVariants as event
 use Rattle.gft_eblock.proofs.Lemmas.{IsUnfinished-append, IsUnfinished-data_at, to_come-early}
@@ -55,12 +55,12 @@ record Books (set : List Range) (brought : List Arrival) (before after : List �
   pub fresh : (x : ℕ) → ¬ HasOffset set x → Arrives brought x → kept (events_of brought) x ≡ Some (slice_index after x)
 
 module _ {D : Type 0} (state : D → DriveState) (start : DriveState) (stream piece : List ℕ) (old new : Intake D) (step : Step) (follows : Follows state start 0 stream old) (advances : Advances old.channel piece step new.channel) (all : step.used ≡ length piece) (fits : length piece ≤ wanted old.channel) where
-  kept_more : ((x : ℕ) → HasOffset new.keep.set.ranges x ↔ (HasOffset old.keep.set.ranges x ⊎ Arrives (event_arrivals step.event) x)) → Reads Bytes (Books old.keep.set.ranges (event_arrivals step.event)) (state old.keep.drive) (state new.keep.drive)
-      → Reads Bytes (HasKeptIn (follows.told ++ event_arrivals step.event) new.keep.set.ranges) start (state new.keep.drive)
+  kept_more : ((x : ℕ) → HasOffset (keep_of state new.keep).ranges x ↔ (HasOffset (keep_of state old.keep).ranges x ⊎ Arrives (event_arrivals step.event) x)) → Reads Bytes (Books (keep_of state old.keep).ranges (event_arrivals step.event)) (keep_of state old.keep).drive (keep_of state new.keep).drive
+      → Reads Bytes (HasKeptIn (follows.told ++ event_arrivals step.event) (keep_of state new.keep).ranges) start (keep_of state new.keep).drive
   kept_more sets books =
       let brought = event_arrivals step.event in
-      Reads-then Bytes (HasKeptIn follows.told old.keep.set.ranges) (Books old.keep.set.ranges brought) (HasKeptIn (follows.told ++ brought) new.keep.set.ranges) start (state old.keep.drive) (state new.keep.drive) follows.kept books
-      (λ xs ys zs kept booked x had. elim (HasOffset-or old.keep.set.ranges x) [
+      Reads-then Bytes (HasKeptIn follows.told (keep_of state old.keep).ranges) (Books (keep_of state old.keep).ranges brought) (HasKeptIn (follows.told ++ brought) (keep_of state new.keep).ranges) start (keep_of state old.keep).drive (keep_of state new.keep).drive follows.kept books
+      (λ xs ys zs kept booked x had. elim (HasOffset-or (keep_of state old.keep).ranges x) [
         | inl before ↦ kept-first follows.told brought x ((follows.offsets x).0 before) ∙ kept x before ∙ ap (λ v. Some v) (sym (booked.stays x before))
         | inr out ↦ elim ((sets x).0 had) [
           | inl before ↦ absurd (out before)
@@ -68,9 +68,9 @@ module _ {D : Type 0} (state : D → DriveState) (start : DriveState) (stream pi
         ]
       ])
 
-  follows_more : (n : ℕ) → ((x : ℕ) → HasOffset new.keep.set.ranges x ↔ (HasOffset old.keep.set.ranges x ⊎ Arrives (event_arrivals step.event) x))
-      → Reads Bytes (Books old.keep.set.ranges (event_arrivals step.event)) (state old.keep.drive) (state new.keep.drive)
-      → Holds new.keep.set.ranges (state new.keep.drive) → Goes (state old.keep.drive) (state new.keep.drive) → new.keep.broken ≡ false
+  follows_more : (n : ℕ) → ((x : ℕ) → HasOffset (keep_of state new.keep).ranges x ↔ (HasOffset (keep_of state old.keep).ranges x ⊎ Arrives (event_arrivals step.event) x))
+      → Reads Bytes (Books (keep_of state old.keep).ranges (event_arrivals step.event)) (keep_of state old.keep).drive (keep_of state new.keep).drive
+      → Holds (keep_of state new.keep).ranges (keep_of state new.keep).drive → Goes (keep_of state old.keep).drive (keep_of state new.keep).drive → IsWhole (keep_of state new.keep)
       → Counts (follows.told ++ event_arrivals step.event) new.count
       → HasNoBad (event_arrivals step.event)
       → eods (event_arrivals step.event) ≡ n → (n ≡ 0 → IsUnfinished (event_arrivals step.event)) → Follows state start n (stream ++ piece) new
@@ -88,7 +88,7 @@ module _ {D : Type 0} (state : D → DriveState) (start : DriveState) (stream pi
             );
         kept = kept_more sets books;
         holds = holds;
-        goes = Goes-then start (state old.keep.drive) (state new.keep.drive) follows.goes goes;
+        goes = Goes-then start (keep_of state old.keep).drive (keep_of state new.keep).drive follows.goes goes;
         whole = whole;
         counted = counted;
         sound = HasNoBad-append follows.told brought follows.sound sound;
@@ -100,8 +100,8 @@ module _ {D : Type 0} (state : D → DriveState) (start : DriveState) (stream pi
 
   -- a piece of data was stored
   pub follows_piece : (offset : ℕ) (bytes : Bor (List ℕ)) → step.event ≡ Some (event.Piece offset bytes)
-      → Reads Bytes (Stores old.keep.set.ranges (block_of offset bytes.now) bytes.now) (state old.keep.drive) (state new.keep.drive) → IsUnion old.keep.set.ranges (block_of offset bytes.now) new.keep.set.ranges
-      → Holds new.keep.set.ranges (state new.keep.drive) → Goes (state old.keep.drive) (state new.keep.drive) → new.keep.broken ≡ false → new.count ≡ old.count → Follows state start 0 (stream ++ piece) new
+      → Reads Bytes (Stores (keep_of state old.keep).ranges (block_of offset bytes.now) bytes.now) (keep_of state old.keep).drive (keep_of state new.keep).drive → IsUnion (keep_of state old.keep).ranges (block_of offset bytes.now) (keep_of state new.keep).ranges
+      → Holds (keep_of state new.keep).ranges (keep_of state new.keep).drive → Goes (keep_of state old.keep).drive (keep_of state new.keep).drive → IsWhole (keep_of state new.keep) → new.count ≡ old.count → Follows state start 0 (stream ++ piece) new
   follows_piece offset bytes is stored union holds goes whole counted =
       follows_more 0
       (rw is (λ x.
@@ -110,7 +110,7 @@ module _ {D : Type 0} (state : D → DriveState) (start : DriveState) (stream pi
         λ h. elim (joined.0 h) [ inl had ↦ inl had | inr came ↦ inr (inside.1 came) ],
         λ h. elim h [ inl had ↦ joined.1 (inl had) | inr came ↦ joined.1 (inr (inside.0 came)) ],
       )))
-      (rw is (Reads-weaker Bytes (Stores old.keep.set.ranges (block_of offset bytes.now) bytes.now) (Books old.keep.set.ranges (data_at offset bytes.now)) (state old.keep.drive) (state new.keep.drive)
+      (rw is (Reads-weaker Bytes (Stores (keep_of state old.keep).ranges (block_of offset bytes.now) bytes.now) (Books (keep_of state old.keep).ranges (data_at offset bytes.now)) (keep_of state old.keep).drive (keep_of state new.keep).drive
       (λ xs ys stores. record {
         stays = stores.kept;
         fresh = λ x out came.
@@ -118,7 +118,7 @@ module _ {D : Type 0} (state : D → DriveState) (start : DriveState) (stream pi
             let k = x - offset in
             let back : offset + k ≡ x = omega arith in
             let lt : k < length bytes.now = omega arith in
-            let read = stores.added k lt (λ had. out (subst (λ y. HasOffset old.keep.set.ranges y) back had)) in
+            let read = stores.added k lt (λ had. out (subst (λ y. HasOffset (keep_of state old.keep).ranges y) back had)) in
             kept-data_at offset bytes.now x k (sym back) lt ∙ ap (λ v. Some v) (sym read ∙ ap (λ y. slice_index ys y) back);
       })
       stored))
@@ -129,23 +129,23 @@ module _ {D : Type 0} (state : D → DriveState) (start : DriveState) (stream pi
       (λ none. rw is (IsUnfinished-data_at offset bytes.now))
 
   -- nothing was stored
-  nothing_booked : (brought : List Arrival) → new.keep ≡ old.keep → ((x : ℕ) → ¬ Arrives brought x) → (x : ℕ) → HasOffset new.keep.set.ranges x ↔ (HasOffset old.keep.set.ranges x ⊎ Arrives brought x)
+  nothing_booked : (brought : List Arrival) → new.keep ≡ old.keep → ((x : ℕ) → ¬ Arrives brought x) → (x : ℕ) → HasOffset (keep_of state new.keep).ranges x ↔ (HasOffset (keep_of state old.keep).ranges x ⊎ Arrives brought x)
   nothing_booked brought same none x = rw same (λ h. inl h, λ h. elim h [ inl had ↦ had | inr came ↦ absurd (none x came) ])
 
-  books_nothing : (brought : List Arrival) → new.keep ≡ old.keep → ((x : ℕ) → ¬ Arrives brought x) → Reads Bytes (Books old.keep.set.ranges brought) (state old.keep.drive) (state new.keep.drive)
-  books_nothing brought same none = rw same (Reads-same Bytes (Books old.keep.set.ranges brought) (state old.keep.drive) (λ xs. record { stays = λ x had. refl; fresh = λ x out came. absurd (none x came) }))
+  books_nothing : (brought : List Arrival) → new.keep ≡ old.keep → ((x : ℕ) → ¬ Arrives brought x) → Reads Bytes (Books (keep_of state old.keep).ranges brought) (keep_of state old.keep).drive (keep_of state new.keep).drive
+  books_nothing brought same none = rw same (Reads-same Bytes (Books (keep_of state old.keep).ranges brought) (keep_of state old.keep).drive (λ xs. record { stays = λ x had. refl; fresh = λ x out came. absurd (none x came) }))
 
   pub follows_none : step.event ≡ None → new.keep ≡ old.keep → new.count ≡ old.count → Follows state start 0 (stream ++ piece) new
   follows_none is same counted =
       follows_more 0 (rw is (nothing_booked [] same (λ x none. none))) (rw is (books_nothing [] same (λ x none. none)))
-      (rw same follows.holds) (rw same (Goes-refl (state old.keep.drive))) (rw same follows.whole) (rw (is, counted) (Counts-same follows.told [] old.count follows.counted refl refl)) (rw is tt) (rw is refl) (λ none. rw is tt)
+      (rw same follows.holds) (rw same (Goes-refl (keep_of state old.keep).drive)) (rw same follows.whole) (rw (is, counted) (Counts-same follows.told [] old.count follows.counted refl refl)) (rw is tt) (rw is refl) (λ none. rw is tt)
 
   pub follows_eof : (total : ℕ) → step.event ≡ Some (event.Eof total) → new.keep ≡ old.keep → eof_refusal old.count total ≡ None → new.count.total ≡ Some total → new.count.eods ≡ old.count.eods → Follows state start 0 (stream ++ piece) new
   follows_eof total is same taken announced unchanged =
       follows_more 0 (rw is (nothing_booked (Eof total ∷ []) same (λ x none. none))) (rw is (books_nothing (Eof total ∷ []) same (λ x none. none)))
-      (rw same follows.holds) (rw same (Goes-refl (state old.keep.drive))) (rw same follows.whole) (rw is (Counts-eof follows.told total old.count new.count follows.counted taken announced unchanged)) (rw is tt) (rw is refl) (λ none. rw is tt)
+      (rw same follows.holds) (rw same (Goes-refl (keep_of state old.keep).drive)) (rw same follows.whole) (rw is (Counts-eof follows.told total old.count new.count follows.counted taken announced unchanged)) (rw is tt) (rw is refl) (λ none. rw is tt)
 
   pub follows_eod : step.event ≡ Some event.Eod → new.keep ≡ old.keep → new.count.total ≡ old.count.total → new.count.eods ≡ old.count.eods + 1 → Follows state start 1 (stream ++ piece) new
   follows_eod is same announced more =
       follows_more 1 (rw is (nothing_booked (Eod ∷ []) same (λ x none. none))) (rw is (books_nothing (Eod ∷ []) same (λ x none. none)))
-      (rw same follows.holds) (rw same (Goes-refl (state old.keep.drive))) (rw same follows.whole) (rw is (Counts-eod follows.told old.count new.count follows.counted announced more)) (rw is tt) (rw is refl) (λ none. absurd (omega arith))
+      (rw same follows.holds) (rw same (Goes-refl (keep_of state old.keep).drive)) (rw same follows.whole) (rw is (Counts-eod follows.told old.count new.count follows.counted announced more)) (rw is tt) (rw is refl) (λ none. absurd (omega arith))

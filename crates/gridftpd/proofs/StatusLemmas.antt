@@ -7,7 +7,7 @@ use Rattle.gridftpd.specs.declared.status.Status.{Status}
 use Rattle.gridftpd.specs.declared.status.Status.TheVariants as status
 use Rattle.gridftpd.specs.Status.{number_of, status_of}
 use Rattle.gridftpd.specs.Line.{text_of}
-use Rattle.gridftpd.specs.Drain.{Answers, FaultCounts, NoneCounted, NoneRose, IsBlamed, IsMade, IsPut, IsRefusal, IsTold}
+use Rattle.gridftpd.specs.Drain.{Answers, FaultCounts, NoneCounted, NoneRose, InputIsBlamed, DriveIsBlamed, IsMade, IsPut, IsRefusal, IsTold}
 
 -- which outcome a status stands for
 record StandsFor (ending : Outcome) (number : ℕ) : Type 0 where
@@ -56,43 +56,43 @@ told_of ending own before after faults risen number told is =
 -- ---- the counts
 
 -- an outcome whose line is made blames nobody
-made_blames_none : (ending : Outcome) (a b c d : ℕ) → IsMade ending → IsBlamed ending a b c d → (b ≡ a) × (d ≡ c)
-made_blames_none outcome.Complete a b c d made blamed = absurd made
-made_blames_none (outcome.Lost taken) a b c d made blamed = blamed
-made_blames_none (outcome.Hole total number missing) a b c d made blamed = blamed
-made_blames_none (outcome.BadBlock bad) a b c d made blamed = blamed
-made_blames_none (outcome.CountRefused error) a b c d made blamed = blamed
-made_blames_none outcome.TooLong a b c d made blamed = absurd made
-made_blames_none (outcome.RangesFull kept) a b c d made blamed = blamed
-made_blames_none outcome.ReadFailed a b c d made blamed = absurd made
-made_blames_none outcome.DriveFailed a b c d made blamed = absurd made
-made_blames_none outcome.OutOfMemory a b c d made blamed = blamed
+made_blames_none : (ending : Outcome) (a b c d : ℕ) → IsMade ending → InputIsBlamed ending a b → DriveIsBlamed ending c d → (b ≡ a) × (d ≡ c)
+made_blames_none outcome.Complete a b c d made input drive = absurd made
+made_blames_none (outcome.Lost taken) a b c d made input drive = (input, drive)
+made_blames_none (outcome.Hole total number missing) a b c d made input drive = (input, drive)
+made_blames_none (outcome.BadBlock bad) a b c d made input drive = (input, drive)
+made_blames_none (outcome.CountRefused error) a b c d made input drive = (input, drive)
+made_blames_none outcome.TooLong a b c d made input drive = absurd made
+made_blames_none (outcome.RangesFull kept) a b c d made input drive = (input, drive)
+made_blames_none outcome.ReadFailed a b c d made input drive = absurd made
+made_blames_none outcome.DriveFailed a b c d made input drive = absurd made
+made_blames_none outcome.OutOfMemory a b c d made input drive = (input, drive)
 
 module _ (old new : FaultCounts) (before after : Option (List ℕ)) (output : new.output ≡ old.output) where
   calm : (new.input ≡ old.input) × (new.drive ≡ old.drive) → NoneCounted old new
   calm same = record { input = same.0; output = output; drive = same.1 }
 
-  own_answers : (ending : Outcome) → IsBlamed ending old.input new.input old.drive new.drive → Appends before after (text_of ending) → Answers (status_of ending) old new before after
-  own_answers outcome.Complete blamed line = (calm blamed, line)
-  own_answers (outcome.Lost taken) blamed line = calm blamed
-  own_answers (outcome.Hole total number missing) blamed line = calm blamed
-  own_answers (outcome.BadBlock bad) blamed line = calm blamed
-  own_answers (outcome.CountRefused error) blamed line = calm blamed
-  own_answers outcome.TooLong blamed line = calm blamed
-  own_answers (outcome.RangesFull kept) blamed line = calm blamed
-  own_answers outcome.ReadFailed blamed line = (blamed.0, output, blamed.1, line)
-  own_answers outcome.DriveFailed blamed line = (blamed.0, output, blamed.1, line)
-  own_answers outcome.OutOfMemory blamed line = (calm blamed, line)
+  own_answers : (ending : Outcome) → InputIsBlamed ending old.input new.input → DriveIsBlamed ending old.drive new.drive → Appends before after (text_of ending) → Answers (status_of ending) old new before after
+  own_answers outcome.Complete input drive line = (calm (input, drive), line)
+  own_answers (outcome.Lost taken) input drive line = calm (input, drive)
+  own_answers (outcome.Hole total number missing) input drive line = calm (input, drive)
+  own_answers (outcome.BadBlock bad) input drive line = calm (input, drive)
+  own_answers (outcome.CountRefused error) input drive line = calm (input, drive)
+  own_answers outcome.TooLong input drive line = calm (input, drive)
+  own_answers (outcome.RangesFull kept) input drive line = calm (input, drive)
+  own_answers outcome.ReadFailed input drive line = (input, output, drive, line)
+  own_answers outcome.DriveFailed input drive line = (input, output, drive, line)
+  own_answers outcome.OutOfMemory input drive line = (calm (input, drive), line)
 
 -- the status that an outcome is told by says so
-pub answers_of : (ending : Outcome) (own : Status) (old new : FaultCounts) (before after : Option (List ℕ)) → IsTold ending own before after old.output new.output → IsBlamed ending old.input new.input old.drive new.drive
+pub answers_of : (ending : Outcome) (own : Status) (old new : FaultCounts) (before after : Option (List ℕ)) → IsTold ending own before after old.output new.output → InputIsBlamed ending old.input new.input → DriveIsBlamed ending old.drive new.drive
     → Answers own old new before after
-answers_of ending own old new before after (inl (inl put)) blamed =
-    subst (λ (s : Status). Answers s old new before after) (sym put.0) (own_answers old new before after put.2 ending blamed put.1)
-answers_of ending own old new before after (inl (inr failed)) blamed = subst (λ (s : Status). Answers s old new before after) (sym failed.0) failed.1
-answers_of ending own old new before after (inr (made, inl put)) blamed =
-    subst (λ (s : Status). Answers s old new before after) (sym put.0) (calm old new before after put.2 (made_blames_none ending old.input new.input old.drive new.drive made blamed), put.1)
-answers_of ending own old new before after (inr (made, inr failed)) blamed = subst (λ (s : Status). Answers s old new before after) (sym failed.0) failed.1
+answers_of ending own old new before after (inl (inl put)) input drive =
+    subst (λ (s : Status). Answers s old new before after) (sym put.0) (own_answers old new before after put.2 ending input drive put.1)
+answers_of ending own old new before after (inl (inr failed)) input drive = subst (λ (s : Status). Answers s old new before after) (sym failed.0) failed.1
+answers_of ending own old new before after (inr (made, inl put)) input drive =
+    subst (λ (s : Status). Answers s old new before after) (sym put.0) (calm old new before after put.2 (made_blames_none ending old.input new.input old.drive new.drive made input drive), put.1)
+answers_of ending own old new before after (inr (made, inr failed)) input drive = subst (λ (s : Status). Answers s old new before after) (sym failed.0) failed.1
 
 -- other words blame nobody
 pub usage_answers : (own : Status) (line : List ℕ) (old new : FaultCounts) (before after : Option (List ℕ)) → (new.input ≡ old.input) × (new.drive ≡ old.drive)

@@ -1,7 +1,9 @@
 -- What each outcome says of the bytes that were taken of the input, and of what is left of it.
-use Rattle.std.specs.Prelude.{◌≡◌, ◌≢◌, ℕ, ◌+◌, ◌<◌, ◌⊎◌, ◌↔◌, List, [], ◌∷◌, ◌++◌, length, Option, None, Some, IsSome}
+use Rattle.std.specs.Prelude.{◌≡◌, ◌≢◌, ℕ, ◌+◌, ◌<◌, ◌⊎◌, ◌↔◌, List, [], ◌∷◌, ◌++◌, length, Option, None}
+use Rattle.std.specs.Prelude.{Some, IsSome}
 use Rattle.std.specs.Io.KnownBytes.{IsAtEnd}
-use Rattle.gft_eblock.specs.Words.{Arrival, Refusal, Eof, Eod, Bad, Arrives, totals, eods, arrivals, data_at, IsUnfinished, refusal_of}
+use Rattle.gft_eblock.specs.Words.{Arrival, Refusal, Eof, Eod, Bad, Arrives, totals, eods, arrivals, data_at}
+use Rattle.gft_eblock.specs.Words.{IsUnfinished, refusal_of}
 use Rattle.gft_core.specs.Words.{Done}
 use Rattle.gft_range.specs.declared.Range.{Range}
 use Rattle.gft_range.specs.Words.{InRange, HasOffset}
@@ -30,10 +32,12 @@ pub record IsLost (stream : List ℕ) (left : Option (List ℕ)) (taken : ℕ) :
 abbrev pub IsFirstMissing : List Arrival → Option Range → Type 0
 IsFirstMissing list None = (x y : ℕ) → x < y → Arrives list y → Arrives list x
 IsFirstMissing list (Some gap) =
-    (gap.start < gap.end) × ((x : ℕ) → x < gap.start → Arrives list x) × ((x : ℕ) → InRange gap x → ¬ Arrives list x) × Arrives list gap.end
+    (gap.start < gap.end) × ((x : ℕ) → x < gap.start → Arrives list x)
+    × ((x : ℕ) → InRange gap x → ¬ Arrives list x) × Arrives list gap.end
 
 -- no byte came, or the EOD did; and the total isn't met, or offsets are missing
-pub record HasHole (stream : List ℕ) (left : Option (List ℕ)) (total : Option ℕ) (number : ℕ) (missing : Option Range) : Type 0 where
+pub record HasHole (stream : List ℕ) (left : Option (List ℕ)) (total : Option ℕ) (number : ℕ)
+    (missing : Option Range) : Type 0 where
   pub ended : ((stream ≡ []) × IsAtEnd left) ⊎ (eods (told_by stream) ≡ 1)
   pub announced : total ≡ first_of (totals (told_by stream))
   pub counted : number ≡ eods (told_by stream)
@@ -76,7 +80,8 @@ pub record EndsBad (stream : List ℕ) (refused : Refusal) : Type 0 where
   pub split : told_by stream ≡ earlier ++ Bad refused ∷ []
   pub last : length stream ≡ refused.place + 17
 
--- what an outcome says of the bytes that were taken, and of those that are left; a fault and want of memory say nothing of them
+-- what an outcome says of the bytes that were taken, and of those that are left; a fault and want of memory
+-- say nothing of them
 abbrev pub IsCause : Outcome → List ℕ → Option (List ℕ) → Type 0
 IsCause outcome.Complete stream left = Done (events_of (told_by stream))
 IsCause (outcome.Lost taken) stream left = IsLost stream left taken

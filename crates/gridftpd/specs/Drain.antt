@@ -9,21 +9,23 @@ use Rattle.gft_drive.specs.declared.Part.TheVariants.{Bytes}
 use Rattle.gft_eblock.specs.declared.TheConstants.{MAX_BYTES}
 use Rattle.gridftpd.specs.Cause.{told_by, NeedsMoreRanges}
 use Rattle.gridftpd.specs.Events.{events_of, IsKept}
-use Rattle.gridftpd.specs.Line.{text_of, complete_text, drive_failed_text, out_of_memory_text, read_failed_text, usage_text}
+use Rattle.gridftpd.specs.Line.{text_of, complete_text, drive_failed_text, out_of_memory_text}
+use Rattle.gridftpd.specs.Line.{read_failed_text, usage_text}
 use Rattle.gridftpd.specs.Status.{status_of}
 use Rattle.gridftpd.specs.declared.outcome.Outcome.{Outcome}
 use Rattle.gridftpd.specs.declared.outcome.Outcome.TheVariants as outcome
 use Rattle.gridftpd.specs.declared.status.Status.{Status}
 use Rattle.gridftpd.specs.declared.status.Status.TheVariants as status
 
--- these bytes were taken of the input, and no part of them has an EOD or a bad header: what follows either is unread
+-- these bytes were taken of the input, and no part of them has an EOD or a bad header: what follows is unread
 pub record IsTaken (before after : Option (List ℕ)) (stream : List ℕ) : Type 0 where
   pub consumed : Consumes before after stream
   pub in_time : (n : ℕ) → n < length stream → IsUnfinished (told_by (take n stream))
 
 -- the transfer is done, and the data is now its kept bytes and no byte more
 abbrev pub IsStored : List ℕ → DriveState → DriveState → Type 0
-IsStored stream old new = Done (events_of (told_by stream)) × Reads Bytes (λ before after. IsKept (events_of (told_by stream)) after) old new
+IsStored stream old new =
+    Done (events_of (told_by stream)) × Reads Bytes (λ before after. IsKept (events_of (told_by stream)) after) old new
 
 -- the data is now the source, and no byte more
 abbrev pub IsFile : List ℕ → List ℕ → List ℕ → Type 0
@@ -32,7 +34,8 @@ IsFile source before after = after ≡ source
 -- the line was put, the status is its own and no put failed; or the put failed
 abbrev pub IsPut : Status → List ℕ → Status → Option (List ℕ) → Option (List ℕ) → ℕ → ℕ → Type 0
 IsPut own line result before after faults risen =
-    ((result ≡ own) × Appends before after line × (risen ≡ faults)) ⊎ ((result ≡ status.PutFailed) × Rose faults risen)
+    ((result ≡ own) × Appends before after line × (risen ≡ faults))
+    ⊎ ((result ≡ status.PutFailed) × Rose faults risen)
 
 -- the line of this outcome is made, and so is of want of memory where memory for it is refused
 abbrev pub IsMade : Outcome → Type 0
@@ -48,11 +51,15 @@ IsTold ending own before after faults risen =
     IsPut (status_of ending) (text_of ending) own before after faults risen
     ⊎ (IsMade ending × IsPut status.OutOfMemory out_of_memory_text own before after faults risen)
 
--- whose count of faults rose by an outcome: the input's, the drive's, or nobody's
-abbrev pub IsBlamed : Outcome → (input_before input_now drive_before drive_now : ℕ) → Type 0
-IsBlamed outcome.ReadFailed input_before input_now drive_before drive_now = Rose input_before input_now × (drive_now ≡ drive_before)
-IsBlamed outcome.DriveFailed input_before input_now drive_before drive_now = (input_now ≡ input_before) × Rose drive_before drive_now
-IsBlamed other input_before input_now drive_before drive_now = (input_now ≡ input_before) × (drive_now ≡ drive_before)
+-- the input's count of faults rose where a read failed, and stays else
+abbrev pub InputIsBlamed : Outcome → ℕ → ℕ → Type 0
+InputIsBlamed outcome.ReadFailed before now = Rose before now
+InputIsBlamed other before now = now ≡ before
+
+-- the drive's count rose where a call of the drive failed, and stays else
+abbrev pub DriveIsBlamed : Outcome → ℕ → ℕ → Type 0
+DriveIsBlamed outcome.DriveFailed before now = Rose before now
+DriveIsBlamed other before now = now ≡ before
 
 -- the counts of faults of what `drain` stands on
 pub record FaultCounts : Type 0 where
@@ -72,17 +79,20 @@ pub record NoneRose (before now : FaultCounts) : Type 0 where
   pub output : ¬ Rose before.output now.output
   pub drive : ¬ Rose before.drive now.drive
 
--- what a status says of the counts, and of the line that the output grew by; that of a refusal is its outcome's
+-- what a status says of the counts, and of the line that the output grew by; a refusal has its outcome's
 abbrev pub Answers : Status → FaultCounts → FaultCounts → Option (List ℕ) → Option (List ℕ) → Type 0
 Answers status.Complete old new before after = NoneCounted old new × Appends before after complete_text
 Answers status.Refused old new before after = NoneCounted old new
 Answers status.Usage old new before after = NoneCounted old new × Appends before after usage_text
 Answers status.ReadFailed old new before after =
-    Rose old.input new.input × (new.output ≡ old.output) × (new.drive ≡ old.drive) × Appends before after read_failed_text
+    Rose old.input new.input × (new.output ≡ old.output) × (new.drive ≡ old.drive)
+    × Appends before after read_failed_text
 Answers status.PutFailed old new before after = Rose old.output new.output
 Answers status.DriveFailed old new before after =
-    (new.input ≡ old.input) × (new.output ≡ old.output) × Rose old.drive new.drive × Appends before after drive_failed_text
-Answers status.OutOfMemory old new before after = NoneCounted old new × Appends before after out_of_memory_text
+    (new.input ≡ old.input) × (new.output ≡ old.output) × Rose old.drive new.drive
+    × Appends before after drive_failed_text
+Answers status.OutOfMemory old new before after =
+    NoneCounted old new × Appends before after out_of_memory_text
 
 -- the outcomes that are refused by a 426 or a 452 line
 abbrev pub IsRefusal : Outcome → Type 0
@@ -107,7 +117,8 @@ pub record IsHonest (source : List ℕ) (list : List Arrival) : Type 0 where
   pub truthful : IsTruthful source list
   pub whole : 0 < eods list → (x : ℕ) → x < length source → Arrives list x
 
--- an input that makes a transfer done, with an EOD (or a bad header) within 2^58 bytes, and no piece of which needs more ranges than may be kept
+-- an input that makes a transfer done, with an EOD (or a bad header) within 2^58 bytes, and no piece of which
+-- needs more ranges than may be kept
 pub record IsGood (bytes : List ℕ) : Type 0 where
   pub done : Done (events_of (told_by bytes))
   pub soon : (n : ℕ) × (n < MAX_BYTES) × HasEnded (told_by (take n bytes))

@@ -7,8 +7,7 @@ abbrev pub AreDrainWords : List (String Global) → Type 0
 AreDrainWords (verb ∷ name ∷ []) = (string_bytes verb ≡ codes "drain") × IsName (string_bytes name)
 AreDrainWords _ = ⊥
 
--- the bytes of the last word, which names the file; none where there is no word
+-- the bytes of the word that names the file
 abbrev pub name_in : List (String Global) → List ℕ
-name_in [] = []
-name_in (word ∷ []) = string_bytes word
-name_in (word ∷ other ∷ words) = name_in (other ∷ words)
+name_in (verb ∷ name ∷ []) = string_bytes name
+name_in _ = []

@@ -1,12 +1,13 @@
 -- How an intake stands to the bytes that it took.
-use Rattle.std.specs.Prelude.{◌≡◌, ℕ, ◌<◌, ◌↔◌, Some, List, [], ◌∷◌, ◌++◌, false, length, take, slice_index}
-use Rattle.gft_eblock.specs.Words.{Arrival, At, Eof, Eod, Bad, Arrives, totals, eods, arrivals, IsUnfinished, to_come}
+use Rattle.std.specs.Prelude.{◌≡◌, ℕ, ◌<◌, ◌↔◌, Some, List, [], ◌∷◌, ◌++◌, length, take, slice_index}
+use Rattle.gft_eblock.specs.Words.{Arrival, At, Eof, Eod, Bad, Arrives, totals, eods, arrivals, IsUnfinished}
+use Rattle.gft_eblock.specs.Words.{to_come}
 use Rattle.gft_core.specs.Words.{kept}
 use Rattle.gft_range.specs.declared.Range.{Range}
 use Rattle.gft_range.specs.Words.{HasOffset}
 use Rattle.gft_drive.specs.Words.{DriveState, Goes, Reads}
 use Rattle.gft_drive.specs.declared.Part.TheVariants.{Bytes}
-use Rattle.gft_keep.specs.Words.{Holds}
+use Rattle.gft_keep.specs.Words.{Holds, IsWhole, keep_of}
 use Rattle.gft_eod.specs.Words.{Count}
 use Rattle.gridftpd.specs.Events.{events_of}
 use Rattle.gridftpd.specs.Totals.{first_of, AllAre}
@@ -14,7 +15,8 @@ use Rattle.gridftpd.specs.declared.intake.Intake.{Intake}
 
 -- at each offset of the set the file has the kept byte
 abbrev pub HasKeptIn : List Arrival → List Range → List ℕ → List ℕ → Type 0
-HasKeptIn told set before after = (x : ℕ) → HasOffset set x → kept (events_of told) x ≡ Some (slice_index after x)
+HasKeptIn told set before after =
+    (x : ℕ) → HasOffset set x → kept (events_of told) x ≡ Some (slice_index after x)
 
 -- no bad header is among the arrivals
 abbrev pub HasNoBad : List Arrival → Type 0
@@ -31,14 +33,16 @@ pub record Counts (list : List Arrival) (count : Count) : Type 0 where
   pub agreed : (total : ℕ) → first_of (totals list) ≡ Some total → AllAre total (totals list)
 
 -- the intake took this stream since its drive was in the state `start`, and was told of so many EODs
-pub record Follows {D : Type 0} (state : D → DriveState) (start : DriveState) (number : ℕ) (stream : List ℕ) (intake : Intake D) : Type 0 where
+pub record Follows {D : Type 0} (state : D → DriveState) (start : DriveState) (number : ℕ) (stream : List ℕ)
+    (intake : Intake D) : Type 0 where
   pub told : List Arrival
   pub carried : (later : List ℕ) → arrivals 0 (stream ++ later) ≡ told ++ to_come intake.channel later
-  pub offsets : (x : ℕ) → HasOffset intake.keep.set.ranges x ↔ Arrives told x
-  pub kept : Reads Bytes (HasKeptIn told intake.keep.set.ranges) start (state intake.keep.drive)
-  pub holds : Holds intake.keep.set.ranges (state intake.keep.drive)
-  pub goes : Goes start (state intake.keep.drive)
-  pub whole : intake.keep.broken ≡ false
+  pub offsets : (x : ℕ) → HasOffset (keep_of state intake.keep).ranges x ↔ Arrives told x
+  pub kept : Reads Bytes (HasKeptIn told (keep_of state intake.keep).ranges)
+      start (keep_of state intake.keep).drive
+  pub holds : Holds (keep_of state intake.keep).ranges (keep_of state intake.keep).drive
+  pub goes : Goes start (keep_of state intake.keep).drive
+  pub whole : IsWhole (keep_of state intake.keep)
   pub counted : Counts told intake.count
   pub sound : HasNoBad told
   pub eods : eods told ≡ number

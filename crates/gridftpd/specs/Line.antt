@@ -27,15 +27,18 @@ lost_text taken = codes "426 Channel lost: lane 0, channel 0, " ++ decimal taken
 
 unfoldable pub hole_text : Option ℕ → ℕ → Option Range → List ℕ
 hole_text total eods missing =
-    codes "426 Hole: total " ++ (number_text total ++ (codes ", EODs " ++ (decimal eods ++ (codes ", first missing " ++ (range_text missing ++ codes ".\n")))))
+    codes "426 Hole: total " ++ (number_text total ++ (codes ", EODs " ++ (decimal eods
+    ++ (codes ", first missing " ++ (range_text missing ++ codes ".\n")))))
 
 unfoldable pub bad_block_text : BadBlock → List ℕ
 bad_block_text bad =
-    codes "426 Bad block at " ++ (decimal bad.place ++ (codes ": flags " ++ (decimal bad.flags ++ (codes ", count " ++ (decimal bad.count ++ (codes ", offset " ++ (decimal bad.offset ++ codes ".\n")))))))
+    codes "426 Bad block at " ++ (decimal bad.place ++ (codes ": flags " ++ (decimal bad.flags
+    ++ (codes ", count " ++ (decimal bad.count ++ (codes ", offset " ++ (decimal bad.offset ++ codes ".\n")))))))
 
 unfoldable pub count_refused_text : EodError → List ℕ
 count_refused_text (BadTotal total) = codes "426 Bad total: " ++ (decimal total ++ codes ".\n")
-count_refused_text (TwoTotals kept other) = codes "426 Two totals: " ++ (decimal kept ++ (codes " and " ++ (decimal other ++ codes ".\n")))
+count_refused_text (TwoTotals kept other) =
+    codes "426 Two totals: " ++ (decimal kept ++ (codes " and " ++ (decimal other ++ codes ".\n")))
 count_refused_text (TooManyEods total) = codes "426 Too many EODs: total " ++ (decimal total ++ codes ".\n")
 
 unfoldable pub too_long_text : List ℕ

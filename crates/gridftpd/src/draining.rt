@@ -4,8 +4,9 @@ ghost use Rattle.gft_drive.specs.Words.{Goes, Reads};
 ghost use Rattle.gft_drive.specs.declared.Part.TheVariants.{Bytes};
 ghost use Rattle.gridftpd.specs.DrainWords.{AreDrainWords, name_in};
 ghost use Rattle.gridftpd.specs.Cause.{IsCause, told_by};
-ghost use Rattle.gridftpd.specs.Drain.{Answers, FaultCounts, NoneRose, IsBlamed, IsPut, IsRefusal, IsTold};
-ghost use Rattle.gridftpd.specs.Drain.{IsFile, IsGood, IsHonest, IsStored, IsTaken};
+ghost use Rattle.gridftpd.specs.Drain.{Answers, FaultCounts, NoneRose, IsPut, IsRefusal, IsTold};
+ghost use Rattle.gridftpd.specs.Drain.{DriveIsBlamed, InputIsBlamed, IsFile, IsGood, IsHonest, IsStored};
+ghost use Rattle.gridftpd.specs.Drain.{IsTaken};
 ghost use Rattle.gridftpd.specs.Line.{usage_text, text_of, out_of_memory_text};
 ghost use Rattle.gridftpd.specs.Status.{number_of};
 ghost use Rattle.gridftpd.specs.declared.outcome.Outcome.{Outcome};
@@ -105,8 +106,8 @@ fn store_input<I: Source, D: Drive + Drop>(alloc: Global, input: &mut I, drive: 
     ensures caused { (stream : List ℕ) × IsTaken (I.left input.old) (I.left input.new) stream
         × IsCause result.0 stream (I.left input.new)
         × (result.0 ≡ Outcome.Complete → IsStored stream (D.state drive) (D.state result.1)) }
-    ensures blamed { IsBlamed result.0 (I.faults input.old) (I.faults input.new)
-        (D.state drive).faults (D.state result.1).faults }
+    ensures input { InputIsBlamed result.0 (I.faults input.old) (I.faults input.new) }
+    ensures drive { DriveIsBlamed result.0 (D.state drive).faults (D.state result.1).faults }
     ensures goes { Goes (D.state drive) (D.state result.1) }
 {
     let Ok(mut buf) = vec![in alloc; 0u8; READ_LEN] else {

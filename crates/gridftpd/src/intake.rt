@@ -1,11 +1,12 @@
-ghost use Rattle.std.specs.Prelude.{◌≡◌, ℕ, ◌+◌, ◌<◌, ◌≤◌, ◌↔◌, List, [], ◌++◌, length, IsTrue, IfErr, IfOk, ◌⊎◌, OnOk, OnErr, if◌then◌else◌, false, true, Some, None, Option};
+ghost use Rattle.std.specs.Prelude.{◌≡◌, ℕ, ◌+◌, ◌<◌, ◌≤◌, ◌↔◌, List, [], ◌++◌, length};
+ghost use Rattle.std.specs.Prelude.{IsTrue, IfErr, IfOk, MatchResult, ◌⊎◌, if◌then◌else◌, false, None};
+ghost use Rattle.std.specs.Prelude.{Option};
 ghost use Rattle.std.specs.Io.KnownBytes.{IsAtEnd};
-ghost use Rattle.gft_base.specs.Words.{Rose};
 ghost use Rattle.gft_drive.specs.Words.{DriveState, Goes};
 ghost use Rattle.gft_eblock.specs.Words.{wanted, IsDone};
-ghost use Rattle.gft_keep.specs.Words.{Holds};
+ghost use Rattle.gft_keep.specs.Words.{drive_of, Holds, IsWhole, keep_of};
 ghost use Rattle.gridftpd.specs.Cause.{IsCause};
-ghost use Rattle.gridftpd.specs.Drain.{IsTaken, IsStored};
+ghost use Rattle.gridftpd.specs.Drain.{DriveIsBlamed, InputIsBlamed, IsTaken, IsStored};
 ghost use Rattle.gridftpd.specs.Turn.{IsTurnsOutcome, IsEndsOutcome};
 
 use crate::outcome::Outcome;
@@ -30,9 +31,9 @@ impl<D: Drive + Drop> Intake<D> {
 
     /// An intake before its first byte.
     pub(crate) fn new(keep: Keep<D>) -> Self
-        requires whole { keep.broken ≡ false }
-        requires empty { keep.set.ranges ≡ [] }
-        ensures follows { Follows D.state (D.state keep.drive) 0 [] result }
+        requires whole { IsWhole (keep_of D.state keep) }
+        requires empty { (keep_of D.state keep).ranges ≡ [] }
+        ensures follows { Follows D.state (keep_of D.state keep).drive 0 [] result }
         ensures not_done { ¬ IsDone result.channel }
         ensures keep { result.keep ≡ keep }
     {
@@ -45,7 +46,7 @@ impl<D: Drive + Drop> Intake<D> {
 
     /// Gives the drive back.
     pub(crate) fn into_drive(self) -> D
-        ensures { result ≡ self.keep.drive }
+        ensures { result ≡ drive_of self.keep }
     {
         self.keep.into_drive()
     }
@@ -53,14 +54,16 @@ impl<D: Drive + Drop> Intake<D> {
     /// Takes one recorded data connection up to its EOD or the end of the input.
     pub(crate) fn run<I: Source>(&mut self, input: &mut I, buf: &mut [u8]) -> Outcome
         requires room { 0 < length buf.old }
-        requires follows { Follows D.state (D.state self.old.keep.drive) 0 [] self.old }
+        requires follows { Follows D.state (keep_of D.state self.old.keep).drive 0 [] self.old }
         requires not_done { ¬ IsDone self.old.channel }
-        ensures caused { (stream : List ℕ) × IsTaken (I.left input.old) (I.left input.new) stream × IsCause result stream (I.left input.new)
-            × (result ≡ Outcome.Complete → IsStored stream (D.state self.old.keep.drive) (D.state self.new.keep.drive)) }
-        ensures read_failed { result ≡ Outcome.ReadFailed → Rose (I.faults input.old) (I.faults input.new) }
-        ensures drive_failed { result ≡ Outcome.DriveFailed → Rose (D.state self.old.keep.drive).faults (D.state self.new.keep.drive).faults }
-        ensures faults { (D.state self.old.keep.drive).faults ≤ (D.state self.new.keep.drive).faults }
-        ensures goes { Goes (D.state self.old.keep.drive) (D.state self.new.keep.drive) }
+        ensures caused { (stream : List ℕ) × IsTaken (I.left input.old) (I.left input.new) stream
+            × IsCause result stream (I.left input.new)
+            × (result ≡ Outcome.Complete → IsStored stream
+                (keep_of D.state self.old.keep).drive (keep_of D.state self.new.keep).drive) }
+        ensures input { InputIsBlamed result (I.faults input.old) (I.faults input.new) }
+        ensures drive { DriveIsBlamed result (keep_of D.state self.old.keep).drive.faults
+            (keep_of D.state self.new.keep).drive.faults }
+        ensures goes { Goes (keep_of D.state self.old.keep).drive (keep_of D.state self.new.keep).drive }
     {
         'reads: loop {
             let wants = self.channel.wants();
@@ -87,18 +90,21 @@ impl<D: Drive + Drop> Intake<D> {
         requires not_done { ¬ IsDone self.old.channel }
         requires room { self.old.channel.taken + length piece.now ≤ MAX_BYTES }
         requires wanted { length piece.now ≤ wanted self.old.channel }
-        requires whole { self.old.keep.broken ≡ false }
-        requires holds { Holds self.old.keep.set.ranges (D.state self.old.keep.drive) }
-        ensures follows { IfOk result (λ ended. (start : DriveState) (stream : List ℕ) → Follows D.state start 0 stream self.old
+        requires whole { IsWhole (keep_of D.state self.old.keep) }
+        requires holds { Holds (keep_of D.state self.old.keep).ranges (keep_of D.state self.old.keep).drive }
+        ensures follows { IfOk result (λ ended. (start : DriveState) (stream : List ℕ)
+            → Follows D.state start 0 stream self.old
             → Follows D.state start (if ended then 1 else 0) (stream ++ piece.now) self.new) }
         ensures ended { IfOk result (λ ended. IsTrue ended ↔ IsDone self.new.channel) }
         ensures waiting { IfOk result (λ ended. wanted self.old.channel ≡ 0 → IsTrue ended) }
-        ensures caused { IfErr result (λ outcome. (start : DriveState) (stream : List ℕ) (left : Option (List ℕ)) → Follows D.state start 0 stream self.old
+        ensures caused { IfErr result (λ outcome. (start : DriveState) (stream : List ℕ)
+            (left : Option (List ℕ)) → Follows D.state start 0 stream self.old
             → IsCause outcome (stream ++ piece.now) left) }
         ensures which { IfErr result IsTurnsOutcome }
-        ensures drive_failed { result ≡ Err Outcome.DriveFailed → Rose (D.state self.old.keep.drive).faults (D.state self.new.keep.drive).faults }
-        ensures faults { (D.state self.old.keep.drive).faults ≤ (D.state self.new.keep.drive).faults }
-        ensures goes { Goes (D.state self.old.keep.drive) (D.state self.new.keep.drive) }
+        ensures drive { let before = (keep_of D.state self.old.keep).drive.faults in
+            let now = (keep_of D.state self.new.keep).drive.faults in
+            MatchResult result (λ _. now ≡ before) (λ outcome. DriveIsBlamed outcome before now) }
+        ensures goes { Goes (keep_of D.state self.old.keep).drive (keep_of D.state self.new.keep).drive }
     {
         let step = match self.channel.feed(piece) {
             Ok(step) => step,
@@ -128,7 +134,8 @@ impl<D: Drive + Drop> Intake<D> {
     /// The outcome where the input ended before the EOD.
     fn lost(&self) -> Outcome
         requires awaits { 0 < wanted self.now.channel }
-        ensures caused { (start : DriveState) (stream : List ℕ) (left : Option (List ℕ)) → Follows D.state start 0 stream self.now → IsAtEnd left
+        ensures caused { (start : DriveState) (stream : List ℕ) (left : Option (List ℕ))
+            → Follows D.state start 0 stream self.now → IsAtEnd left
             → IsCause result stream left }
         ensures which { (result ≡ Outcome.Hole None 0 None) ⊎ (result ≡ Outcome.Lost self.now.channel.taken) }
     {
@@ -145,16 +152,18 @@ impl<D: Drive + Drop> Intake<D> {
 
     /// The outcome where the EOD came.
     fn finish(&mut self) -> Outcome
-        requires whole { self.old.keep.broken ≡ false }
-        requires holds { Holds self.old.keep.set.ranges (D.state self.old.keep.drive) }
-        ensures caused { (start : DriveState) (stream : List ℕ) (left : Option (List ℕ)) → Follows D.state start 1 stream self.old → IsDone self.old.channel
+        requires whole { IsWhole (keep_of D.state self.old.keep) }
+        requires holds { Holds (keep_of D.state self.old.keep).ranges (keep_of D.state self.old.keep).drive }
+        ensures caused { (start : DriveState) (stream : List ℕ) (left : Option (List ℕ))
+            → Follows D.state start 1 stream self.old → IsDone self.old.channel
             → IsCause result stream left }
-        ensures complete { (start : DriveState) (stream : List ℕ) → Follows D.state start 1 stream self.old → IsDone self.old.channel → result ≡ Outcome.Complete
-            → IsStored stream start (D.state self.new.keep.drive) }
+        ensures complete { (start : DriveState) (stream : List ℕ)
+            → Follows D.state start 1 stream self.old → IsDone self.old.channel → result ≡ Outcome.Complete
+            → IsStored stream start (keep_of D.state self.new.keep).drive }
         ensures which { IsEndsOutcome result }
-        ensures drive_failed { result ≡ Outcome.DriveFailed → Rose (D.state self.old.keep.drive).faults (D.state self.new.keep.drive).faults }
-        ensures faults { (D.state self.old.keep.drive).faults ≤ (D.state self.new.keep.drive).faults }
-        ensures goes { Goes (D.state self.old.keep.drive) (D.state self.new.keep.drive) }
+        ensures drive { DriveIsBlamed result (keep_of D.state self.old.keep).drive.faults
+            (keep_of D.state self.new.keep).drive.faults }
+        ensures goes { Goes (keep_of D.state self.old.keep).drive (keep_of D.state self.new.keep).drive }
     {
         let missing = self.keep.ranges().first_gap();
         if !self.count.is_met() || missing.is_some() {

@@ -2,6 +2,9 @@
 //! NAME in the current folder, and prints one line.
 #![tactic(auto)]
 
+ghost use Rattle.std.specs.Prelude.{◌≡◌, IfOk, string_bytes};
+ghost use Rattle.gridftpd.specs.DrainWords.{AreDrainWords, name_in};
+
 mod draining;
 mod intake;
 mod line;
@@ -46,7 +49,9 @@ fn main(rt: HostRuntime) -> ExitCode {
 
 /// The words behind the program's name, and the last of them, which names the file; no file is
 /// touched where `drain` refuses the words.
-fn words_and_path(rt: &(impl Env + AllocGlobal)) -> io::Result<(Vec<String>, String)> {
+fn words_and_path(rt: &(impl Env + AllocGlobal)) -> io::Result<(Vec<String>, String)>
+    ensures { IfOk result (λ both. AreDrainWords both.0.items → string_bytes both.1 ≡ name_in both.0.items) }
+{
     let mut words = env::args(rt)?.skip(1).collect::<Vec<String>>(rt.alloc())?;
     let path = match words.last() {
         Some(name) => name.clone()?,

@@ -1,6 +1,8 @@
-ghost use Rattle.std.specs.Prelude.{Some, codes};
+ghost use Rattle.std.specs.Prelude.{◌≡◌, Some, codes};
+ghost use Rattle.gridftpd.specs.DrainWords.{name_in};
 
 use crate::draining::drain;
+use gft_base::OutOfMemory;
 use gft_drive::{CallKind, FailAt, MemoryDrive, MemorySink, MemorySource, Origin, Part, Unknown};
 use gft_eblock::{Header, encode};
 use std::alloc::{AllocError, Global};
@@ -10,226 +12,78 @@ use std::test::Fail;
 /// Flags, offset and bytes of a block.
 type Block = (u8, u64, &'static str);
 
-/// What comes of `drain` over a recording of which only the first bytes are there.
-struct Row {
-    words: &'static [&'static str],
-    blocks: &'static [Block],
-    there: usize,
-    status: u8,
-    line: &'static str,
-    file: Option<&'static str>,
-}
+/// A recording, how many of its bytes are there, and what comes of it: the status, the line, and the
+/// file where it is told.
+type Row = (&'static [Block], usize, u8, &'static str, Option<&'static str>);
 
-const GOOD: &[&str] = &["drain", "a.dat"];
+const WORDS: &[&str] = &["drain", "a.dat"];
 
 const ALL: usize = usize::MAX;
 
-const COMPLETE: &str = "226 Transfer complete.\n";
+const STORED: &str = "226 Transfer complete.\n";
 
 const USAGE: &str = "usage: gridftpd drain NAME\n";
 
-const LONG: &str =
-    "nnnnnnnnnnnnnnnnnnnnnnnnnnnnnnnnnnnnnnnnnnnnnnnnnnnnnnnnnnnnnnnnnnnnnnnnnnnnnnnnnnnnnnnnnnnnnnnnnnnnnnnnnnnnnnnnnnnnnnnnnnnnnnnnnnnnnnnnnnnnnnnnnnnnnnnnnnnnnnnnnnnnnnnnnnnnnnnnnnnnnnnnnnnnnnnnnnnnnnnnn";
+const HELLO: &[Block] = &[(0, 0, "hello"), (64, 1, ""), (12, 0, "")];
+
+const TWICE: &[Block] = &[(0, 0, "HELLO"), (0, 0, "helloX"), (64, 1, ""), (12, 0, "")];
+
+/// 201 letters.
+const LONG: &str = concat!(
+    "nnnnnnnnnnnnnnnnnnnnnnnnnnnnnnnnnnnnnnnnnnnnnnnnnnnnnnnnnnnnnnnnnnn",
+    "nnnnnnnnnnnnnnnnnnnnnnnnnnnnnnnnnnnnnnnnnnnnnnnnnnnnnnnnnnnnnnnnnnn",
+    "nnnnnnnnnnnnnnnnnnnnnnnnnnnnnnnnnnnnnnnnnnnnnnnnnnnnnnnnnnnnnnnnnnn",
+);
 
 static RECORDINGS: [Row; 15] = [
-    Row {
-        words: GOOD,
-        blocks: &[(0, 0, "hello"), (64, 1, ""), (12, 0, "")],
-        there: ALL,
-        status: 0,
-        line: COMPLETE,
-        file: Some("hello"),
-    },
-    Row {
-        words: GOOD,
-        blocks: &[(64, 1, ""), (8, 0, "")],
-        there: ALL,
-        status: 0,
-        line: COMPLETE,
-        file: Some(""),
-    },
-    Row {
-        words: GOOD,
-        blocks: &[(0, 0, "HELLO"), (0, 0, "helloX"), (64, 1, ""), (12, 0, "")],
-        there: ALL,
-        status: 0,
-        line: COMPLETE,
-        file: Some("HELLOX"),
-    },
-    Row {
-        words: GOOD,
-        blocks: &[(0, 0, "hello"), (64, 1, ""), (12, 0, "")],
-        there: 16,
-        status: 1,
-        line: "426 Channel lost: lane 0, channel 0, 16 bytes taken.\n",
-        file: Some(""),
-    },
-    Row {
-        words: GOOD,
-        blocks: &[(0, 0, "hello"), (64, 1, ""), (12, 0, "")],
-        there: 20,
-        status: 1,
-        line: "426 Channel lost: lane 0, channel 0, 20 bytes taken.\n",
-        file: None,
-    },
-    Row {
-        words: GOOD,
-        blocks: &[(0, 0, "hello"), (0, 7, "xy"), (64, 1, ""), (8, 0, "")],
-        there: ALL,
-        status: 1,
-        line: "426 Hole: total 1, EODs 1, first missing 5-7.\n",
-        file: None,
-    },
-    Row {
-        words: GOOD,
-        blocks: &[(0, 0, "hello"), (64, 1, ""), (12, 0, "")],
-        there: 0,
-        status: 1,
-        line: "426 Hole: total none, EODs 0, first missing none.\n",
-        file: Some(""),
-    },
-    Row {
-        words: GOOD,
-        blocks: &[(0, 2, "cd"), (0, 0, "ab"), (8, 4, "e")],
-        there: ALL,
-        status: 1,
-        line: "426 Hole: total none, EODs 1, first missing none.\n",
-        file: None,
-    },
-    Row {
-        words: GOOD,
-        blocks: &[(64, 2, ""), (64, 3, "")],
-        there: ALL,
-        status: 1,
-        line: "426 Two totals: 2 and 3.\n",
-        file: None,
-    },
-    Row {
-        words: GOOD,
-        blocks: &[(64, 2, ""), (8, 0, "")],
-        there: ALL,
-        status: 1,
-        line: "426 Hole: total 2, EODs 1, first missing none.\n",
-        file: None,
-    },
-    Row {
-        words: GOOD,
-        blocks: &[(64, 0, "")],
-        there: ALL,
-        status: 1,
-        line: "426 Bad total: 0.\n",
-        file: None,
-    },
-    Row {
-        words: GOOD,
-        blocks: &[(64, 1025, "")],
-        there: ALL,
-        status: 1,
-        line: "426 Bad total: 1025.\n",
-        file: None,
-    },
-    Row {
-        words: GOOD,
-        blocks: &[(64, 1, ""), (64, 1, ""), (0, 0, "ab"), (8, 0, "")],
-        there: ALL,
-        status: 0,
-        line: COMPLETE,
-        file: Some("ab"),
-    },
-    Row {
-        words: GOOD,
-        blocks: &[(16, 0, "a")],
-        there: ALL,
-        status: 1,
-        line: "426 Bad block at 0: flags 16, count 1, offset 0.\n",
-        file: None,
-    },
-    Row {
-        words: GOOD,
-        blocks: &[(0, 0, "hello"), (64, 1, "x")],
-        there: ALL,
-        status: 1,
-        line: "426 Bad block at 22: flags 64, count 1, offset 1.\n",
-        file: None,
-    },
+    (HELLO, ALL, 0, STORED, Some("hello")),
+    (&[(64, 1, ""), (8, 0, "")], ALL, 0, STORED, Some("")),
+    (TWICE, ALL, 0, STORED, Some("HELLOX")),
+    (&[(64, 1, ""), (64, 1, ""), (0, 0, "ab"), (8, 0, "")], ALL, 0, STORED, Some("ab")),
+    (HELLO, 16, 1, "426 Channel lost: lane 0, channel 0, 16 bytes taken.\n", Some("")),
+    (HELLO, 20, 1, "426 Channel lost: lane 0, channel 0, 20 bytes taken.\n", None),
+    (
+        &[(0, 0, "hello"), (0, 7, "xy"), (64, 1, ""), (8, 0, "")],
+        ALL,
+        1,
+        "426 Hole: total 1, EODs 1, first missing 5-7.\n",
+        None,
+    ),
+    (HELLO, 0, 1, "426 Hole: total none, EODs 0, first missing none.\n", Some("")),
+    (
+        &[(0, 2, "cd"), (0, 0, "ab"), (8, 4, "e")],
+        ALL,
+        1,
+        "426 Hole: total none, EODs 1, first missing none.\n",
+        None,
+    ),
+    (&[(64, 2, ""), (8, 0, "")], ALL, 1, "426 Hole: total 2, EODs 1, first missing none.\n", None),
+    (&[(64, 2, ""), (64, 3, "")], ALL, 1, "426 Two totals: 2 and 3.\n", None),
+    (&[(64, 0, "")], ALL, 1, "426 Bad total: 0.\n", None),
+    (&[(64, 1025, "")], ALL, 1, "426 Bad total: 1025.\n", None),
+    (&[(16, 0, "a")], ALL, 1, "426 Bad block at 0: flags 16, count 1, offset 0.\n", None),
+    (
+        &[(0, 0, "hello"), (64, 1, "x")],
+        ALL,
+        1,
+        "426 Bad block at 22: flags 64, count 1, offset 1.\n",
+        None,
+    ),
 ];
 
-static OTHER_WORDS: [Row; 9] = [
-    Row {
-        words: &[],
-        blocks: &[(0, 0, "hello"), (64, 1, ""), (12, 0, "")],
-        there: ALL,
-        status: 2,
-        line: USAGE,
-        file: None,
-    },
-    Row {
-        words: &["drain"],
-        blocks: &[(0, 0, "hello"), (64, 1, ""), (12, 0, "")],
-        there: ALL,
-        status: 2,
-        line: USAGE,
-        file: None,
-    },
-    Row {
-        words: &["drain", ""],
-        blocks: &[(0, 0, "hello"), (64, 1, ""), (12, 0, "")],
-        there: ALL,
-        status: 2,
-        line: USAGE,
-        file: None,
-    },
-    Row {
-        words: &["drain", ".x"],
-        blocks: &[(0, 0, "hello"), (64, 1, ""), (12, 0, "")],
-        there: ALL,
-        status: 2,
-        line: USAGE,
-        file: None,
-    },
-    Row {
-        words: &["drain", "a.gfr"],
-        blocks: &[(0, 0, "hello"), (64, 1, ""), (12, 0, "")],
-        there: ALL,
-        status: 2,
-        line: USAGE,
-        file: None,
-    },
-    Row {
-        words: &["drain", "/a"],
-        blocks: &[(0, 0, "hello"), (64, 1, ""), (12, 0, "")],
-        there: ALL,
-        status: 2,
-        line: USAGE,
-        file: None,
-    },
-    Row {
-        words: &["drain", LONG],
-        blocks: &[(0, 0, "hello"), (64, 1, ""), (12, 0, "")],
-        there: ALL,
-        status: 2,
-        line: USAGE,
-        file: None,
-    },
-    Row {
-        words: &["drain", "a", "b"],
-        blocks: &[(0, 0, "hello"), (64, 1, ""), (12, 0, "")],
-        there: ALL,
-        status: 2,
-        line: USAGE,
-        file: None,
-    },
-    Row {
-        words: &["store", "a"],
-        blocks: &[(0, 0, "hello"), (64, 1, ""), (12, 0, "")],
-        there: ALL,
-        status: 2,
-        line: USAGE,
-        file: None,
-    },
+static OTHER_WORDS: [&'static [&'static str]; 9] = [
+    &[],
+    &["drain"],
+    &["drain", ""],
+    &["drain", ".x"],
+    &["drain", "a.gfr"],
+    &["drain", "/a"],
+    &["drain", LONG],
+    &["drain", "a", "b"],
+    &["store", "a"],
 ];
 
-fn recording(alloc: Global, blocks: &[Block]) -> Result<Vec<u8>, AllocError> {
+fn recording(alloc: Global, blocks: &[Block], there: usize) -> Result<Vec<u8>, AllocError> {
     let mut stream = Vec::new(alloc);
     for &(flags, offset, text) in blocks {
         let bytes = text.as_bytes();
@@ -241,6 +95,7 @@ fn recording(alloc: Global, blocks: &[Block]) -> Result<Vec<u8>, AllocError> {
         }))?;
         stream.extend_from_slice(bytes)?;
     }
+    stream.truncate(there);
     Ok(stream)
 }
 
@@ -252,65 +107,71 @@ fn owned(alloc: Global, words: &[&str]) -> Result<Vec<String>, AllocError> {
     Ok(owned)
 }
 
-/// Runs a row with at most so many bytes a read, and compares status, line and file.
-fn check<R: Abort + AllocGlobal>(rt: &R, row: &Row, most: usize) -> Result<(), Fail> {
-    assert!(rt; most > 0);
-    let alloc = rt.alloc();
-    let mut stream = recording(alloc, row.blocks)?;
-    stream.truncate(row.there);
-    let words = owned(alloc, row.words)?;
-    let mut input = MemorySource::new(stream, most, Vec::new(alloc));
-    let mut out = MemorySink::new(alloc, 1_000, Vec::new(alloc))?;
-    let drive = MemoryDrive::new(alloc, b"a.dat", 1_000, u32::MAX, &[])?;
-    let (status, back) = drain::<_, _, _, Unknown>(
-        alloc,
-        words.as_slice(),
-        &mut input,
-        &mut out,
-        drive,
-    );
-    assert_eq!(rt; status, row.status, "{}", row.line);
-    assert_eq!(rt; out.bytes(), row.line.as_bytes(), "{}", row.line);
-    assert_eq!(rt; back.is_some(), row.status != 2, "{}", row.line);
-    if let (Some(file), Some(drive)) = (row.file, back) {
-        assert_eq!(rt; drive.bytes(), file.as_bytes(), "{}", row.line);
+fn named(words: &[String]) -> &[u8]
+    ensures { result.now ≡ name_in words.now }
+{
+    match words {
+        [_, name] => name.as_str().as_bytes(),
+        _ => b"",
     }
-    Ok(())
 }
 
-fn check_all<R: Abort + AllocGlobal>(rt: &R, rows: &[Row]) -> Result<(), Fail> {
-    for row in rows {
-        check(rt, row, 1)?;
-        check(rt, row, 1_000)?;
-    }
-    Ok(())
+/// Runs `drain` over drives and a sink in memory, of which these calls fail.
+fn run<O: Origin>(
+    alloc: Global,
+    words: &[&str],
+    input: &mut MemorySource,
+    puts: Vec<u32>,
+    calls: &[FailAt],
+) -> Result<(u8, MemorySink, Option<MemoryDrive>), OutOfMemory> {
+    let words = owned(alloc, words)?;
+    let mut out = MemorySink::new(alloc, 1_000, puts)?;
+    let drive = MemoryDrive::new(alloc, named(words.as_slice()), 1_000, u32::MAX, calls)?;
+    let (status, back) =
+        drain::<_, _, _, O>(alloc, words.as_slice(), input, &mut out, drive);
+    Ok((status, out, back))
 }
 
 #[test]
 fn a_recording_is_stored_or_refused_by_its_line(rt: HostRuntime) -> Result<(), Fail> {
-    check_all(&rt, &RECORDINGS)
+    let alloc = rt.alloc();
+    for most in [1, 1_000] {
+        for &(blocks, there, status, line, file) in &RECORDINGS {
+            let stream = recording(alloc, blocks, there)?;
+            let mut input = MemorySource::new(stream, most, Vec::new(alloc));
+            let (given, out, back) = run::<Unknown>(alloc, WORDS, &mut input, Vec::new(alloc), &[])?;
+            assert_eq!(rt; given, status, "{line}");
+            assert_eq!(rt; out.bytes(), line.as_bytes(), "{line}");
+            let stored = back.as_ref().map(|drive| drive.bytes());
+            assert!(rt; stored.is_some(), "{line}");
+            if let Some(file) = file {
+                assert_eq!(rt; stored, Some(file.as_bytes()), "{line}");
+            }
+        }
+    }
+    Ok(())
 }
 
 #[test]
-fn other_words_are_refused(rt: HostRuntime) -> Result<(), Fail> {
-    check_all(&rt, &OTHER_WORDS)
+fn other_words_touch_nothing(rt: HostRuntime) -> Result<(), Fail> {
+    let alloc = rt.alloc();
+    for words in OTHER_WORDS {
+        let mut input = MemorySource::new(recording(alloc, HELLO, ALL)?, 1_000, Vec::new(alloc));
+        let (status, out, back) = run::<Unknown>(alloc, words, &mut input, Vec::new(alloc), &[])?;
+        assert_eq!(rt; status, 2);
+        assert_eq!(rt; out.bytes(), USAGE.as_bytes());
+        assert_eq!(rt; input.reads(), 0);
+        assert_eq!(rt; back.map(|drive| drive.count()), Some(0));
+    }
+    Ok(())
 }
 
 #[test]
 fn what_follows_the_eod_is_left_unread(rt: HostRuntime) -> Result<(), Fail> {
     let alloc = rt.alloc();
-    let stream = recording(alloc, &[(0, 0, "hello"), (72, 1, ""), (0, 0, "later")])?;
-    let words = owned(alloc, GOOD)?;
+    let stream = recording(alloc, &[(0, 0, "hello"), (72, 1, ""), (0, 0, "later")], ALL)?;
     let mut input = MemorySource::new(stream, 7, Vec::new(alloc));
-    let mut out = MemorySink::new(alloc, 100, Vec::new(alloc))?;
-    let drive = MemoryDrive::new(alloc, b"a.dat", 100, 100, &[])?;
-    let (status, _back) = drain::<_, _, _, Unknown>(
-        alloc,
-        words.as_slice(),
-        &mut input,
-        &mut out,
-        drive,
-    );
+    let (status, _out, _back) = run::<Unknown>(alloc, WORDS, &mut input, Vec::new(alloc), &[])?;
     assert_eq!(rt; status, 0);
     assert_eq!(rt; input.rest().len(), 22);
     Ok(())
@@ -319,19 +180,8 @@ fn what_follows_the_eod_is_left_unread(rt: HostRuntime) -> Result<(), Fail> {
 #[test]
 fn a_kept_byte_is_not_written_again(rt: HostRuntime) -> Result<(), Fail> {
     let alloc = rt.alloc();
-    let blocks = [(0, 0, "HELLO"), (0, 0, "helloX"), (64, 1, ""), (12, 0, "")];
-    let stream = recording(alloc, &blocks)?;
-    let words = owned(alloc, GOOD)?;
-    let mut input = MemorySource::new(stream, 1_000, Vec::new(alloc));
-    let mut out = MemorySink::new(alloc, 100, Vec::new(alloc))?;
-    let drive = MemoryDrive::new(alloc, b"a.dat", 100, 100, &[])?;
-    let (status, back) = drain::<_, _, _, Unknown>(
-        alloc,
-        words.as_slice(),
-        &mut input,
-        &mut out,
-        drive,
-    );
+    let mut input = MemorySource::new(recording(alloc, TWICE, ALL)?, 1_000, Vec::new(alloc));
+    let (status, _out, back) = run::<Unknown>(alloc, WORDS, &mut input, Vec::new(alloc), &[])?;
     assert_eq!(rt; status, 0);
     let mut writes = Vec::new(alloc);
     if let Some(drive) = back {
@@ -357,19 +207,9 @@ impl Origin for Alphabet {
 #[test]
 fn sixty_bytes_take_sixty_reads(rt: HostRuntime) -> Result<(), Fail> {
     let alloc = rt.alloc();
-    let stream = recording(alloc, &[(0, 0, "abcdefghi"), (64, 1, ""), (12, 0, "")])?;
-    assert_eq!(rt; stream.len(), 60);
-    let words = owned(alloc, GOOD)?;
+    let stream = recording(alloc, &[(0, 0, "abcdefghi"), (64, 1, ""), (12, 0, "")], ALL)?;
     let mut input = MemorySource::new(stream, 1, Vec::new(alloc));
-    let mut out = MemorySink::new(alloc, 100, Vec::new(alloc))?;
-    let drive = MemoryDrive::new(alloc, b"a.dat", 100, 100, &[])?;
-    let (status, back) = drain::<_, _, _, Alphabet>(
-        alloc,
-        words.as_slice(),
-        &mut input,
-        &mut out,
-        drive,
-    );
+    let (status, _out, back) = run::<Alphabet>(alloc, WORDS, &mut input, Vec::new(alloc), &[])?;
     assert_eq!(rt; status, 0);
     assert_eq!(rt;
         back.as_ref().map(|drive| drive.bytes()),
@@ -382,7 +222,6 @@ fn sixty_bytes_take_sixty_reads(rt: HostRuntime) -> Result<(), Fail> {
 #[test]
 fn each_fault_has_its_status(rt: HostRuntime) -> Result<(), Fail> {
     let alloc = rt.alloc();
-    let words = owned(alloc, GOOD)?;
     for (read, put, sync, status, line) in [
         (2, 0, 0, 3, "451 Read failed.\n"),
         (0, 1, 0, 4, ""),
@@ -391,25 +230,17 @@ fn each_fault_has_its_status(rt: HostRuntime) -> Result<(), Fail> {
         (0, 0, 3, 5, "451 Drive failed.\n"),
         (0, 0, 4, 5, "451 Drive failed.\n"),
     ] {
-        let stream = recording(alloc, &[(0, 0, "hello"), (64, 1, ""), (12, 0, "")])?;
+        let stream = recording(alloc, HELLO, ALL)?;
         let mut input = MemorySource::new(stream, 100, vec![in alloc; read]?);
-        let mut out = MemorySink::new(alloc, 100, vec![in alloc; put]?)?;
-        let failing = [FailAt {
+        let calls = [FailAt {
             call: CallKind::Sync,
             part: Part::Bytes,
             number: sync,
         }];
-        let drive = MemoryDrive::new(alloc, b"a.dat", 100, 100, &failing)?;
-        let (given, back) = drain::<_, _, _, Unknown>(
-            alloc,
-            words.as_slice(),
-            &mut input,
-            &mut out,
-            drive,
-        );
+        let (given, out, _back) =
+            run::<Unknown>(alloc, WORDS, &mut input, vec![in alloc; put]?, &calls)?;
         assert_eq!(rt; given, status);
         assert_eq!(rt; out.bytes(), line.as_bytes());
-        assert!(rt; back.is_some());
     }
     Ok(())
 }

@@ -1,5 +1,6 @@
 use Rattle.std.proofs.Common.{◌≡◌, ◌≢◌, ◌⊎◌, List, Some, IsSome, true, false, sym, subst, ap, ◌∙◌, inl, inr}
 use Rattle.std.specs.Prelude.{IfSome, IfNone}
+use Rattle.gft_keep.specs.Words.{keep_of}
 use Rattle.gft_range.specs.declared.Range.{Range}
 use Rattle.gft_range.specs.Words.{IsFirstGap, HasNoGap, KeptRanges}
 use Rattle.gridftpd.proofs.EndLemmas.{hole_from, done_from, stored_from, below_end, is_none}
@@ -8,7 +9,7 @@ use Rattle.gridftpd.proofs.intake.Intake.finish.Goals.{then-not-is_met-via-then-
 
 pub returns-then-not-is_met-clause-caused : goal.returns-then-not-is_met-clause-caused
 returns-then-not-is_met-clause-caused g c start stream left follows done =
-    let set = c.args.self.now.keep.set.ranges in
+    let set = (keep_of g.D.Drive.state c.args.self.now.keep).ranges in
     let count = c.args.self.now.count in
     let same : c.ranges-2.result.now.ranges ≡ set = ap (λ (kept : KeptRanges). kept.ranges) c.ranges-2.ensures in
     let missing = c.first_gap-missing.result in

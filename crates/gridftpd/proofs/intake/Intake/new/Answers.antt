@@ -1,4 +1,5 @@
 use Rattle.std.proofs.Common.{ℕ, [], List, refl, sym, subst, arith}
+use Rattle.gft_keep.specs.Words.{keep_of}
 use Rattle.gft_range.specs.declared.Range.{Range}
 use Rattle.gft_range.specs.Words.{HasOffset}
 use Rattle.gft_drive.proofs.Lemmas.{Goes-refl, Reads-same}
@@ -8,14 +9,14 @@ use Rattle.gridftpd.proofs.intake.Intake.new.Goals as goal
 
 pub returns-clause-follows : goal.returns-clause-follows
 returns-clause-follows g c =
-    let none = λ (x : ℕ) (had : HasOffset c.args.keep.set.ranges x). subst (λ (rs : List Range). HasOffset rs x) c.requires.empty had in
+    let none = λ (x : ℕ) (had : HasOffset (keep_of g.D.Drive.state c.args.keep).ranges x). subst (λ (rs : List Range). HasOffset rs x) c.requires.empty had in
     record {
       told = [];
       carried = λ later. sym (c.new.ensures.to_come later);
       offsets = λ x. (none x, λ came. absurd came);
-      kept = Reads-same Bytes (HasKeptIn [] c.args.keep.set.ranges) (g.D.Drive.state c.args.keep.drive) (λ xs x had. absurd (none x had));
+      kept = Reads-same Bytes (HasKeptIn [] (keep_of g.D.Drive.state c.args.keep).ranges) (keep_of g.D.Drive.state c.args.keep).drive (λ xs x had. absurd (none x had));
       holds = λ image told x had. absurd (none x had);
-      goes = Goes-refl (g.D.Drive.state c.args.keep.drive);
+      goes = Goes-refl (keep_of g.D.Drive.state c.args.keep).drive;
       whole = c.requires.whole;
       counted = record { total = c.new-2.ensures.total; eods = c.new-2.ensures.eods; agreed = λ total first. tt };
       sound = tt;

@@ -1,5 +1,6 @@
 use Rattle.std.proofs.Common.{◌≡◌, ◌<◌, ◌≤◌, ◌++◌, [], Bool, cond, take, arith, length, length-append, ap, subst, inl, inr}
 use Rattle.std.proofs.lemmas.List.{length-take-le}
+use Rattle.gft_keep.specs.Words.{keep_of}
 use Rattle.gft_eblock.specs.Words.{wanted}
 use Rattle.gridftpd.specs.Follows.{Follows}
 use Rattle.gridftpd.specs.Drain.{IsStored}
@@ -13,19 +14,19 @@ use Rattle.gridftpd.proofs.intake.Intake.run.Goals.{else-count-eq0-via-then-coun
 pub returns-then-wants-gt0-clause-caused : goal.returns-then-wants-gt0-clause-caused
 returns-then-wants-gt0-clause-caused g c =
     let kept = c.reads.invariant in
-    let start = g.D.Drive.state c.args.self.now.keep.drive in
+    let start = (keep_of g.D.Drive.state c.args.self.now.keep).drive in
     let none : take c.in-Ok.count c.read_next.new.buf ≡ [] = ap (λ n. take n c.read_next.new.buf) c.if-count-eq0.true in
     let ended = c.in-Ok.ensures.at_end c.if-count-eq0.true (omega (arith, c.if-wants-gt0.true, c.min.ensures, kept.room, c.taken-room.ensures.taken)) in (
       kept.stream,
       record { consumed = Consumes-nothing _ _ _ kept.stream (take c.in-Ok.count c.read_next.new.buf) none kept.consumed c.in-Ok.ensures.consumed; in_time = kept.follows.in_time },
       c.lost.ensures.caused start kept.stream (g.I.Source.left c.read_next.new.input) kept.follows ended,
-      λ same. elim c.lost.ensures.which [ inl hole ↦ absurd {A = IsStored kept.stream start (g.D.Drive.state c.reads.self.keep.drive)} (cc) | inr lost ↦ absurd {A = IsStored kept.stream start (g.D.Drive.state c.reads.self.keep.drive)} (cc) ],
+      λ same. elim c.lost.ensures.which [ inl hole ↦ absurd {A = IsStored kept.stream start (keep_of g.D.Drive.state c.reads.self.keep).drive} (cc) | inr lost ↦ absurd {A = IsStored kept.stream start (keep_of g.D.Drive.state c.reads.self.keep).drive} (cc) ],
     )
 
 pub returns-then-count-room-clause-caused : goal.returns-then-count-room-clause-caused
 returns-then-count-room-clause-caused g c =
     let kept = c.reads.invariant in
-    let start = g.D.Drive.state c.args.self.now.keep.drive in
+    let start = (keep_of g.D.Drive.state c.args.self.now.keep).drive in
     let piece = take c.in-Ok.count c.read_next.new.buf in
     let len : length piece ≡ c.in-Ok.count = length-take-le c.in-Ok.count c.read_next.new.buf c.in-Ok.ensures.count.0 in
     let fits : length piece ≤ wanted c.reads.self.channel = omega (arith, c.in-Ok.ensures.count.1, c.min.ensures, c.wants-wants.ensures.wanted, len) in (
@@ -36,15 +37,15 @@ returns-then-count-room-clause-caused g c =
     )
 
 pub finish-requires-clause-whole : goal.finish-requires-clause-whole
-finish-requires-clause-whole g c = (c.in-Ok-true.ensures.follows (g.D.Drive.state c.args.self.now.keep.drive) c.reads.invariant.stream c.reads.invariant.follows).whole
+finish-requires-clause-whole g c = (c.in-Ok-true.ensures.follows (keep_of g.D.Drive.state c.args.self.now.keep).drive c.reads.invariant.stream c.reads.invariant.follows).whole
 
 pub finish-requires-clause-holds : goal.finish-requires-clause-holds
-finish-requires-clause-holds g c = (c.in-Ok-true.ensures.follows (g.D.Drive.state c.args.self.now.keep.drive) c.reads.invariant.stream c.reads.invariant.follows).holds
+finish-requires-clause-holds g c = (c.in-Ok-true.ensures.follows (keep_of g.D.Drive.state c.args.self.now.keep).drive c.reads.invariant.stream c.reads.invariant.follows).holds
 
 pub returns-in-Ok-true-clause-caused : goal.returns-in-Ok-true-clause-caused
 returns-in-Ok-true-clause-caused g c =
     let kept = c.reads.invariant in
-    let start = g.D.Drive.state c.args.self.now.keep.drive in
+    let start = (keep_of g.D.Drive.state c.args.self.now.keep).drive in
     let piece = take c.in-Ok.count c.read_next.new.buf in
     let stream = kept.stream ++ piece in
     let len : length piece ≡ c.in-Ok.count = length-take-le c.in-Ok.count c.read_next.new.buf c.in-Ok.ensures.count.0 in
@@ -61,20 +62,20 @@ returns-in-Ok-true-clause-caused g c =
 pub returns-in-Err-clause-caused : goal.returns-in-Err-clause-caused
 returns-in-Err-clause-caused g c =
     let kept = c.reads.invariant in
-    let start = g.D.Drive.state c.args.self.now.keep.drive in
+    let start = (keep_of g.D.Drive.state c.args.self.now.keep).drive in
     let piece = take c.in-Ok.count c.read_next.new.buf in
     let len : length piece ≡ c.in-Ok.count = length-take-le c.in-Ok.count c.read_next.new.buf c.in-Ok.ensures.count.0 in
     let fits : length piece ≤ wanted c.reads.self.channel = omega (arith, c.in-Ok.ensures.count.1, c.min.ensures, c.wants-wants.ensures.wanted, len) in (
       kept.stream ++ piece,
       record { consumed = Consumes-append _ _ _ kept.stream piece kept.consumed c.in-Ok.ensures.consumed; in_time = in_time_more g.D.Drive.state start kept.stream piece c.reads.self kept.follows fits },
       c.in-Err.ensures.caused start kept.stream (g.I.Source.left c.read_next.new.input) kept.follows,
-      λ same. absurd {A = IsStored (kept.stream ++ piece) start (g.D.Drive.state c.turn.new.self.keep.drive)} (subst (λ (outcome : Outcome). IsTurnsOutcome outcome) same c.in-Err.ensures.which),
+      λ same. absurd {A = IsStored (kept.stream ++ piece) start (keep_of g.D.Drive.state c.turn.new.self.keep).drive} (subst (λ (outcome : Outcome). IsTurnsOutcome outcome) same c.in-Err.ensures.which),
     )
 
 pub reads-smaller : goal.reads-smaller
 reads-smaller g c =
     let kept = c.reads.invariant in
-    let start = g.D.Drive.state c.args.self.now.keep.drive in
+    let start = (keep_of g.D.Drive.state c.args.self.now.keep).drive in
     let piece = take c.in-Ok.count c.read_next.new.buf in
     let len : length piece ≡ c.in-Ok.count = length-take-le c.in-Ok.count c.read_next.new.buf c.in-Ok.ensures.count.0 in
     let grown = c.in-Ok-false.ensures.follows start kept.stream kept.follows in
@@ -89,7 +90,7 @@ reads-smaller g c =
 pub reads-preserved : goal.reads-preserved
 reads-preserved g c =
     let kept = c.reads.invariant in
-    let start = g.D.Drive.state c.args.self.now.keep.drive in
+    let start = (keep_of g.D.Drive.state c.args.self.now.keep).drive in
     let piece = take c.in-Ok.count c.read_next.new.buf in
     let stream = kept.stream ++ piece in
     let more = c.in-Ok-false.field-0-test in
