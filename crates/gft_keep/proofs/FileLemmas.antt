@@ -1,5 +1,5 @@
 -- How a file changes while the missing parts of a block are written.
-use Rattle.std.proofs.Common.{◌≡◌, ℕ, ◌+◌, ◌-◌, ◌<◌, ◌≤◌, ◌⊎◌, ◌↔◌, List, [], ◌∷◌, length, take, drop, refl, sym, ap, ◌∙◌, subst, arith, inl, inr, length-drop, Result, Ok, Err, OnOk}
+use Rattle.std.proofs.Common.{◌≡◌, ℕ, ◌+◌, ◌-◌, ◌<◌, ◌≤◌, ◌⊎◌, ◌↔◌, List, [], ◌∷◌, length, take, drop, refl, sym, ap, ◌∙◌, subst, arith, inl, inr, length-drop, Bool, true, false, Result, Ok, Err, OnOk, IsErr, IsTrue}
 use Rattle.std.specs.Prelude.{slice_index}
 use Rattle.std.proofs.lemmas.Bool.{cases_lt}
 use Rattle.std.proofs.lemmas.List.{length-take-le, get_or-take, get_or-drop}
@@ -9,7 +9,9 @@ use Rattle.gft_drive.specs.Words.{DriveState, Image, Goes, Reads, Written, CutTo
 use Rattle.gft_drive.proofs.Lemmas.{told_before}
 use Rattle.gft_drive.specs.declared.Part.TheVariants.{Bytes}
 use Rattle.gft_keep.specs.Holds.{HoldsAll, Holds}
-use Rattle.gft_keep.specs.Store.{Stores, Finishes}
+use Rattle.gft_keep.specs.Calls.{Finished, Finishes}
+use Rattle.gft_keep.specs.State.{KeepState}
+use Rattle.gft_keep.specs.Store.{Stores}
 use Rattle.gft_keep.specs.Writing.{AreLeft, Writing}
 
 pub left_at_first : (set : List Range) (block : Range) (missing : List Range) → IsMissing set block missing → AreLeft set block missing
@@ -136,18 +138,35 @@ pub length-from_exact : (set : List Range) (file : List ℕ) (len : ℕ) → Hol
 length-from_exact set file len holds exact =
     elim (cases_lt 0 len) [ inl some ↦ let last = holds (len - 1) ((exact (len - 1)).1 (omega arith)) in omega arith | inr none ↦ omega arith ]
 
+is_false : (b : Bool) → (b ≡ true → ⊥) → b ≡ false
+is_false true no_more = absurd (no_more refl)
+is_false false no_more = refl
+
 -- a cut to the length up to which all is kept leaves so many bytes
-pub cut_finishes : {T E : Type 0} (result : Result T E) (set : List Range) (len : ℕ) (old new : DriveState) → Holds set old → ((x : ℕ) → HasOffset set x ↔ (x < len)) → OnOk result (Reads Bytes (CutTo len) old new) → OnOk result (Reads Bytes (Finishes len) old new)
-cut_finishes (Ok done) set len old new holds exact cut = λ from told.
+pub cut_finishes : {T E : Type 0} (result : Result T E) (len : ℕ) (old new : KeepState) → Holds old.ranges old.drive → ((x : ℕ) → HasOffset old.ranges x ↔ (x < len))
+    → new.ranges ≡ old.ranges → (IsTrue new.is_broken ↔ IsErr result) → Goes old.drive new.drive → OnOk result (Reads Bytes (CutTo len) old.drive new.drive) → OnOk result (Finished len old new)
+cut_finishes (Ok done) len old new holds exact same broken goes cut =
+    let read : Reads Bytes (Finishes len) old.drive new.drive = λ from told.
     let there = cut from told in (
       there.0,
       there.1,
       record {
-        changed = record { left = there.2.changed; size = ap length there.2.changed ∙ length-take-le len from.bytes (length-from_exact set from.bytes len (holds from told) exact) };
+        changed = record { left = there.2.changed; size = ap length there.2.changed ∙ length-take-le len from.bytes (length-from_exact old.ranges from.bytes len (holds from told) exact) };
         kept = there.2.kept;
       },
-    )
-cut_finishes (Err failed) set len old new holds exact cut = tt
+    ) in
+    record {
+      whole = is_false new.is_broken (λ broke. let failed = broken.0 broke in cc);
+      ranges = same;
+      read = read;
+      holds = λ image told x had.
+          let before = told_before old.drive new.drive image goes told in
+          let there = read before.0 before.1 in
+          let is : there.0 ≡ image = cc (there.1, told) in
+          let below : x < len = (exact x).0 (subst (λ (set : List Range). HasOffset set x) same had) in
+          subst (λ (i : Image). x < length i.bytes) is (omega (arith, there.2.changed.size, below));
+    }
+cut_finishes (Err failed) len old new holds exact same broken goes cut = tt
 
 pub Holds-stored : (set : List Range) (block : Range) (bytes : List ℕ) (old new : DriveState) (union : List Range) → block.start + length bytes ≡ block.end → ((x : ℕ) → HasOffset set x ⊎ ¬ HasOffset set x)
     → ((x : ℕ) → HasOffset union x ↔ (HasOffset set x ⊎ InRange block x)) → Goes old new → Reads Bytes (Stores set block bytes) old new → Holds union new

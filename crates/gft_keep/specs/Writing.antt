@@ -9,7 +9,10 @@ pub record AreLeft (set : List Range) (block : Range) (left : List Range) : Type
   pub within : (x : ℕ) → HasOffset left x → InRange block x × ¬ HasOffset set x
 
 -- the parts of the block that are not left to write have the block's bytes, and kept bytes stay
-pub record Writing (set : List Range) (block : Range) (bytes : List ℕ) (left : List Range) (old now : List ℕ) : Type 0 where
+pub record Writing (set : List Range) (block : Range) (bytes : List ℕ) (left : List Range)
+    (old now : List ℕ) : Type 0 where
   pub kept : (x : ℕ) → HasOffset set x → slice_index now x ≡ slice_index old x
-  pub added : (k : ℕ) → k < length bytes → ¬ HasOffset set (block.start + k) → HasOffset left (block.start + k) ⊎ ((slice_index now (block.start + k) ≡ slice_index bytes k) × (block.start + k < length now))
+  pub added : (k : ℕ) → k < length bytes → ¬ HasOffset set (block.start + k)
+      → HasOffset left (block.start + k)
+      ⊎ ((slice_index now (block.start + k) ≡ slice_index bytes k) × (block.start + k < length now))
   pub longer : length old ≤ length now

@@ -1,10 +1,14 @@
-ghost use Rattle.std.specs.Prelude.{◌≡◌, ℕ, ◌+◌, ◌<◌, ◌≤◌, ◌↔◌, [], length, IsTrue, IsErr, IfOk, IfErr, OnOk, OnErr, IsErrOf, false};
-ghost use Rattle.gft_base.specs.Words.{HasCause, Rose};
-ghost use Rattle.gft_drive.specs.Words.{Goes, Looks, Reads, HasLength, HasRead, CutTo, Same};
+ghost use Rattle.std.specs.Prelude.{◌≡◌, ℕ, ◌<◌, ◌≤◌, ◌↔◌, length, false, IsTrue, IsErr};
+ghost use Rattle.std.specs.Prelude.{IfOk, IfErr, OnOk, OnErr};
+ghost use Rattle.gft_base.specs.Words.{HasCause};
+ghost use Rattle.gft_drive.specs.Words.{Goes, Reads, HasLength, HasRead, CutTo};
 ghost use Rattle.gft_drive.specs.declared.Part.TheVariants.{Bytes};
-ghost use Rattle.gft_range.specs.Words.{HasOffset, InRange, IsUnion};
+ghost use Rattle.gft_range.specs.Words.{HasOffset, InRange};
+ghost use Rattle.gft_keep.specs.Calls.{Attached, Broke, Emptied, Finished, NotAttached, OnlyLooks};
 ghost use Rattle.gft_keep.specs.Holds.{Holds};
-ghost use Rattle.gft_keep.specs.Store.{Stores, IsNewCount, IsFull, Finishes, block_of};
+ghost use Rattle.gft_keep.specs.Of.{drive_of, keep_of};
+ghost use Rattle.gft_keep.specs.State.{IsWhole};
+ghost use Rattle.gft_keep.specs.Store.{HasKeepCause, IsBlock, IsFull, Refused, Stored, UnlessFailed, block_of};
 
 use crate::MAX_RANGES;
 use crate::error::{AttachError, KeepError};
@@ -14,7 +18,8 @@ use gft_drive::{Drive, Part};
 use gft_range::{Range, RangeSet};
 use std::alloc::Global;
 
-/// A file on a drive, and the set of its kept offsets in memory.
+/// A file on a drive, and the set of its kept offsets in memory. Contracts see `keep_of D.state keep`:
+/// the drive's state, the kept ranges, and whether a change failed.
 ///
 /// Looks: `ranges`, `broken`, `read`, `size`. Changes: `fresh`, then `store` for each block, then
 /// `finish`. A change that fails leaves it broken, and then only `ranges`, `broken` and `into_drive`
@@ -27,14 +32,12 @@ pub struct Keep<D: Drive + Drop> {
 }
 
 impl<D: Drive + Drop> Keep<D> {
-    /// Takes a drive of which nothing is kept yet, once its data is synced. Where that fails the
-    /// drive comes back.
+    /// Takes a drive of which nothing is kept yet, once its data is synced. If that fails the drive
+    /// comes back.
     pub fn attach(alloc: Global, drive: D) -> Result<Self, (AttachError, D)>
-        ensures ok { IfOk result (λ keep. (keep.broken ≡ false) × (keep.set.ranges ≡ [])) }
-        ensures read { IfOk result (λ keep. Reads Bytes Same (D.state drive) (D.state keep.drive)) }
-        ensures goes { IfOk result (λ keep. Goes (D.state drive) (D.state keep.drive)) }
-        ensures faults { IfOk result (λ keep. (D.state drive).faults ≤ (D.state keep.drive).faults) }
-        ensures failed { IfErr result (λ error. (error.0 ≡ AttachError.Failed) × Goes (D.state drive) (D.state error.1) × Rose (D.state drive).faults (D.state error.1).faults) }
+        ensures ok { IfOk result (λ keep. Attached (D.state drive) (keep_of D.state keep)) }
+        ensures failed { IfErr result (λ error.
+            (error.0 ≡ AttachError.Failed) × NotAttached (D.state drive) (D.state error.1)) }
     {
         let mut drive = drive;
         match drive.sync(Part::Bytes) {
@@ -49,21 +52,21 @@ impl<D: Drive + Drop> Keep<D> {
 
     /// The kept offsets.
     pub fn ranges(&self) -> &RangeSet
-        ensures { result.now ≡ self.now.set }
+        ensures { result.now.ranges ≡ (keep_of D.state self.now).ranges }
     {
         &self.set
     }
 
     /// Whether a change failed.
     pub fn broken(&self) -> bool
-        ensures { result ≡ self.now.broken }
+        ensures { result ≡ (keep_of D.state self.now).is_broken }
     {
         self.broken
     }
 
     /// Gives the drive back.
     pub fn into_drive(self) -> D
-        ensures { result ≡ self.drive }
+        ensures { result ≡ drive_of self }
     {
         self.drive
     }
@@ -71,36 +74,35 @@ impl<D: Drive + Drop> Keep<D> {
     /// Reads bytes of the file from this place on into the front of the buffer, fewer than asked
     /// only at the end.
     pub fn read(&mut self, at: u64, buf: &mut [u8]) -> Result<usize, Failed>
-        requires whole { self.old.broken ≡ false }
+        requires whole { IsWhole (keep_of D.state self.old) }
         ensures bound { IfOk result (λ n. n ≤ length buf.new) }
-        ensures bytes { IfOk result (HasRead Bytes at buf.new (D.state self.old.drive)) }
-        ensures same { (self.new.set ≡ self.old.set) × (self.new.broken ≡ false) }
-        ensures looks { Looks (D.state self.old.drive) (D.state self.new.drive) }
-        ensures cause { HasCause (D.state self.old.drive).faults (D.state self.new.drive).faults result }
+        ensures bytes { IfOk result (HasRead Bytes at buf.new (keep_of D.state self.old).drive) }
+        ensures looks { OnlyLooks (keep_of D.state self.old) (keep_of D.state self.new) }
+        ensures cause { HasCause (keep_of D.state self.old).drive.faults
+            (keep_of D.state self.new).drive.faults result }
     {
         self.drive.read(Part::Bytes, at, buf)
     }
 
     /// The number of bytes of the file.
     pub fn size(&mut self) -> Result<u64, Failed>
-        requires whole { self.old.broken ≡ false }
-        ensures length { IfOk result (HasLength Bytes (D.state self.old.drive)) }
-        ensures same { (self.new.set ≡ self.old.set) × (self.new.broken ≡ false) }
-        ensures looks { Looks (D.state self.old.drive) (D.state self.new.drive) }
-        ensures cause { HasCause (D.state self.old.drive).faults (D.state self.new.drive).faults result }
+        requires whole { IsWhole (keep_of D.state self.old) }
+        ensures length { IfOk result (HasLength Bytes (keep_of D.state self.old).drive) }
+        ensures looks { OnlyLooks (keep_of D.state self.old) (keep_of D.state self.new) }
+        ensures cause { HasCause (keep_of D.state self.old).drive.faults
+            (keep_of D.state self.new).drive.faults result }
     {
         self.drive.len(Part::Bytes)
     }
 
-    /// Keeps nothing, and empties the file. Where it fails the keep is broken.
+    /// Keeps nothing, and empties the file. If it fails the keep is broken.
     pub fn fresh(&mut self) -> Result<(), Failed>
-        requires whole { self.old.broken ≡ false }
-        ensures emptied { OnOk result ((self.new.set.ranges ≡ []) × Reads Bytes (CutTo 0) (D.state self.old.drive) (D.state self.new.drive)) }
-        ensures broken { IsTrue self.new.broken ↔ IsErr result }
-        ensures failed { OnErr result (self.new.set ≡ self.old.set) }
-        ensures limit { length self.old.set.ranges ≤ MAX_RANGES → length self.new.set.ranges ≤ MAX_RANGES }
-        ensures goes { Goes (D.state self.old.drive) (D.state self.new.drive) }
-        ensures cause { HasCause (D.state self.old.drive).faults (D.state self.new.drive).faults result }
+        requires whole { IsWhole (keep_of D.state self.old) }
+        ensures emptied { OnOk result (Emptied (keep_of D.state self.old) (keep_of D.state self.new)) }
+        ensures failed { OnErr result (Broke (keep_of D.state self.old) (keep_of D.state self.new)) }
+        ensures goes { Goes (keep_of D.state self.old).drive (keep_of D.state self.new).drive }
+        ensures cause { HasCause (keep_of D.state self.old).drive.faults
+            (keep_of D.state self.new).drive.faults result }
     {
         match self.cut(0) {
             Ok(()) => {
@@ -112,28 +114,29 @@ impl<D: Drive + Drop> Keep<D> {
     }
 
     /// Keeps the bytes of a block at this offset, and tells how many of them are new. A byte that was
-    /// kept before stays; where all were, no call of the drive is made.
+    /// kept before stays; if all were, no call of the drive is made.
     ///
-    /// Refusals, in this order: `RangesFull` where 16,384 ranges are kept and the block would make
+    /// Refusals, in this order: `RangesFull` if [`MAX_RANGES`] ranges are kept and the block would make
     /// one more; `OutOfMemory`; `Failed`. The first two change nothing.
+    ///
+    /// It has three conditions and seven promises: a block, a set and a drive meet in this call alone,
+    /// and each answer leaves all three in a state of its own.
     pub fn store(&mut self, offset: u64, bytes: &[u8]) -> Result<u64, KeepError>
-        requires whole { self.old.broken ≡ false }
-        requires holds { Holds self.old.set.ranges (D.state self.old.drive) }
-        requires some { 0 < length bytes.now }
-        requires in_range { offset + length bytes.now ≤ LIMIT }
-        ensures stored { OnOk result (Reads Bytes (Stores self.old.set.ranges (block_of offset bytes.now) bytes.now) (D.state self.old.drive) (D.state self.new.drive)) }
-        ensures union { OnOk result (IsUnion self.old.set.ranges (block_of offset bytes.now) self.new.set.ranges) }
-        ensures count { IfOk result (IsNewCount self.old.set.ranges (block_of offset bytes.now)) }
-        ensures holds { OnOk result (Holds self.new.set.ranges (D.state self.new.drive)) }
-        ensures silent { ((x : ℕ) → InRange (block_of offset bytes.now) x → HasOffset self.old.set.ranges x) → (result ≡ Ok 0) × (self.new ≡ self.old) }
-        ensures full { IsFull self.old.set.ranges (block_of offset bytes.now) → result ≡ Err (KeepError.RangesFull MAX_RANGES) }
-        ensures full_only_at_limit { (kept : ℕ) → result ≡ Err (KeepError.RangesFull kept) → (kept ≡ MAX_RANGES) × IsFull self.old.set.ranges (block_of offset bytes.now) × (self.new ≡ self.old) }
-        ensures refused_memory { IsErrOf result KeepError.OutOfMemory → self.new ≡ self.old }
-        ensures failed { IsErrOf result KeepError.Failed → (self.new.set.ranges ≡ self.old.set.ranges) × Rose (D.state self.old.drive).faults (D.state self.new.drive).faults }
-        ensures broken { IsTrue self.new.broken ↔ IsErrOf result KeepError.Failed }
-        ensures limit { length self.old.set.ranges ≤ MAX_RANGES → length self.new.set.ranges ≤ MAX_RANGES }
-        ensures goes { Goes (D.state self.old.drive) (D.state self.new.drive) }
-        ensures faults { (D.state self.old.drive).faults ≤ (D.state self.new.drive).faults }
+        requires whole { IsWhole (keep_of D.state self.old) }
+        requires holds { Holds (keep_of D.state self.old).ranges (keep_of D.state self.old).drive }
+        requires block { IsBlock offset bytes.now }
+        ensures stored { IfOk result
+            (Stored (keep_of D.state self.old) (keep_of D.state self.new) offset bytes.now) }
+        ensures refused { IfErr result
+            (Refused (keep_of D.state self.old) (keep_of D.state self.new) (block_of offset bytes.now)) }
+        ensures unchanged { IfErr result (λ error. UnlessFailed error (self.new ≡ self.old)) }
+        ensures silent { ((x : ℕ) → InRange (block_of offset bytes.now) x
+            → HasOffset (keep_of D.state self.old).ranges x) → (result ≡ Ok 0) × (self.new ≡ self.old) }
+        ensures full { IsFull (keep_of D.state self.old).ranges (block_of offset bytes.now)
+            → result ≡ Err (KeepError.RangesFull MAX_RANGES) }
+        ensures goes { Goes (keep_of D.state self.old).drive (keep_of D.state self.new).drive }
+        ensures cause { HasKeepCause (keep_of D.state self.old).drive.faults
+            (keep_of D.state self.new).drive.faults result }
     {
         let end = offset + bytes.len() as u64;
         let block = Range { start: offset, end };
@@ -159,23 +162,23 @@ impl<D: Drive + Drop> Keep<D> {
         }
     }
 
-    /// Cuts the file to this length, up to which all its bytes are kept. Where it fails the keep is
+    /// Cuts the file to this length, up to which all its bytes are kept. If it fails the keep is
     /// broken.
     pub fn finish(&mut self, len: u64) -> Result<(), Failed>
-        requires whole { self.old.broken ≡ false }
-        requires holds { Holds self.old.set.ranges (D.state self.old.drive) }
-        requires exact { (x : ℕ) → HasOffset self.old.set.ranges x ↔ (x < len) }
-        ensures finished { OnOk result (Reads Bytes (Finishes len) (D.state self.old.drive) (D.state self.new.drive)) }
-        ensures holds { OnOk result (Holds self.new.set.ranges (D.state self.new.drive)) }
-        ensures set { self.new.set ≡ self.old.set }
-        ensures broken { IsTrue self.new.broken ↔ IsErr result }
-        ensures goes { Goes (D.state self.old.drive) (D.state self.new.drive) }
-        ensures cause { HasCause (D.state self.old.drive).faults (D.state self.new.drive).faults result }
+        requires whole { IsWhole (keep_of D.state self.old) }
+        requires holds { Holds (keep_of D.state self.old).ranges (keep_of D.state self.old).drive }
+        requires exact { (x : ℕ) → HasOffset (keep_of D.state self.old).ranges x ↔ (x < len) }
+        ensures finished { OnOk result
+            (Finished len (keep_of D.state self.old) (keep_of D.state self.new)) }
+        ensures failed { OnErr result (Broke (keep_of D.state self.old) (keep_of D.state self.new)) }
+        ensures goes { Goes (keep_of D.state self.old).drive (keep_of D.state self.new).drive }
+        ensures cause { HasCause (keep_of D.state self.old).drive.faults
+            (keep_of D.state self.new).drive.faults result }
     {
         self.cut(len)
     }
 
-    /// Cuts the file and syncs it; where that fails the keep is broken.
+    /// Cuts the file and syncs it; if that fails the keep is broken.
     fn cut(&mut self, len: u64) -> Result<(), Failed>
         requires whole { self.old.broken ≡ false }
         ensures cut { OnOk result (Reads Bytes (CutTo len) (D.state self.old.drive) (D.state self.new.drive)) }

@@ -16,9 +16,8 @@ fn drive_of(alloc: Global, bytes: &[u8], failing: &[FailAt]) -> Result<MemoryDri
     Ok(drive)
 }
 
-fn keep_of(alloc: Global, bytes: &[u8], failing: &[FailAt]) -> Result<Keep<MemoryDrive>, Fail>
-    ensures whole { IfOk result (λ keep. keep.broken ≡ false) }
-    ensures none { IfOk result (λ keep. keep.set.ranges ≡ []) }
+fn made(alloc: Global, bytes: &[u8], failing: &[FailAt]) -> Result<Keep<MemoryDrive>, Fail>
+    ensures { IfOk result (λ keep. (keep.broken ≡ false) × (keep.set.ranges ≡ [])) }
 {
     match Keep::attach(alloc, drive_of(alloc, bytes, failing)?) {
         Ok(keep) => Ok(keep),
@@ -59,7 +58,7 @@ fn are_calls(rt: &impl Abort, drive: &MemoryDrive, calls: &[(CallKind, u64, u64)
 
 #[test]
 fn only_what_is_missing_is_written(rt: HostRuntime) -> Result<(), Fail> {
-    let mut keep = keep_of(rt.alloc(), b"", &[])?;
+    let mut keep = made(rt.alloc(), b"", &[])?;
     keep.fresh()?;
     let first = keep.store(0, b"HELLO")?;
     let second = keep.store(0, b"helloX")?;
@@ -97,7 +96,7 @@ fn only_what_is_missing_is_written(rt: HostRuntime) -> Result<(), Fail> {
 #[test]
 fn older_longer_data_is_gone(rt: HostRuntime) -> Result<(), Fail> {
     for is_fresh in [true, false] {
-        let mut keep = keep_of(rt.alloc(), b"0123456789", &[])?;
+        let mut keep = made(rt.alloc(), b"0123456789", &[])?;
         if is_fresh {
             keep.fresh()?;
             assert_eq!(rt; keep.size(), Ok(0));
@@ -120,25 +119,20 @@ fn is_broken(rt: &impl Abort, keep: &Keep<MemoryDrive>) {
 
 #[test]
 fn a_change_whose_sync_fails_breaks_the_keep(rt: HostRuntime) -> Result<(), Fail> {
-    let mut emptied = keep_of(rt.alloc(), b"", &[failing_sync(3)])?;
+    let mut emptied = made(rt.alloc(), b"", &[failing_sync(3)])?;
     emptied.store(0, b"abc")?;
     assert_eq!(rt; emptied.fresh(), Err(Failed));
     is_broken(&rt, &emptied);
-    let mut stored = keep_of(rt.alloc(), b"", &[failing_sync(3)])?;
+    let mut stored = made(rt.alloc(), b"", &[failing_sync(3)])?;
     stored.store(0, b"abc")?;
     assert_eq!(rt; stored.store(7, b"de"), Err(KeepError::Failed));
     is_broken(&rt, &stored);
-    Ok(())
-}
-
-#[test]
-fn a_finish_whose_sync_fails_breaks_the_keep(rt: HostRuntime) -> Result<(), Fail> {
-    let mut keep = keep_of(rt.alloc(), b"", &[failing_sync(3)])?;
-    keep.store(0, b"abc")?;
-    assert!(rt; keep.ranges().first_gap().is_none());
-    let end = keep.ranges().end();
-    assert_eq!(rt; keep.finish(end), Err(Failed));
-    is_broken(&rt, &keep);
+    let mut finished = made(rt.alloc(), b"", &[failing_sync(3)])?;
+    finished.store(0, b"abc")?;
+    assert!(rt; finished.ranges().first_gap().is_none());
+    let end = finished.ranges().end();
+    assert_eq!(rt; finished.finish(end), Err(Failed));
+    is_broken(&rt, &finished);
     Ok(())
 }
 
@@ -157,7 +151,7 @@ fn a_drive_that_is_not_attached_comes_back(rt: HostRuntime) -> Result<(), Fail> 
 
 #[test]
 fn as_many_ranges_are_kept_as_may_be(rt: HostRuntime) -> Result<(), Fail> {
-    let mut keep = keep_of(rt.alloc(), b"", &[])?;
+    let mut keep = made(rt.alloc(), b"", &[])?;
     let behind = 2 * MAX_RANGES as u64;
     for i in 1..=MAX_RANGES as u64 {
         keep.store(behind - 2 * i, b"x")?;
@@ -171,5 +165,24 @@ fn as_many_ranges_are_kept_as_may_be(rt: HostRuntime) -> Result<(), Fail> {
     assert_eq!(rt; keep.ranges().count(), MAX_RANGES - 1);
     // the first sync, and a write and a sync for each byte
     assert_eq!(rt; keep.into_drive().count(), 1 + 2 * (MAX_RANGES + 1));
+    Ok(())
+}
+
+#[test]
+fn errors_have_their_texts(rt: HostRuntime) -> Result<(), Fail> {
+    let kept = 16_384;
+    let rows = [
+        (
+            KeepError::RangesFull { kept },
+            "16384 ranges are kept, and no more can be",
+        ),
+        (KeepError::OutOfMemory, "out of memory"),
+        (KeepError::Failed, "the drive failed"),
+    ];
+    for (error, text) in rows {
+        assert_eq!(rt; error.to_string(rt.alloc())?.as_str(), text);
+    }
+    let error = AttachError::Failed;
+    assert_eq!(rt; error.to_string(rt.alloc())?.as_str(), "the drive failed");
     Ok(())
 }

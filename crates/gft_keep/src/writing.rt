@@ -19,7 +19,8 @@ pub(crate) fn write_missing<D: Drive>(
     requires holds { Holds set.now.ranges (D.state drive.old) }
     requires block { block.start + length bytes.now ≡ block.end }
     requires in_range { block.end ≤ LIMIT }
-    ensures stored { OnOk result (Reads Bytes (Stores set.now.ranges block bytes.now) (D.state drive.old) (D.state drive.new)) }
+    ensures stored { OnOk result
+        (Reads Bytes (Stores set.now.ranges block bytes.now) (D.state drive.old) (D.state drive.new)) }
     ensures count { IfOk result (IsNewCount set.now.ranges block) }
     ensures goes { Goes (D.state drive.old) (D.state drive.new) }
     ensures cause { HasCause (D.state drive.old).faults (D.state drive.new).faults result }

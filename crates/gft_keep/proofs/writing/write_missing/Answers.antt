@@ -22,7 +22,7 @@ loop-gap-init g c =
       left = left;
       writing = λ from told. (from, told, record { changed = writing_none set c.args.block c.args.bytes.now _ from.bytes is c.requires.block; kept = refl });
       goes = Goes-refl _;
-      faults = omega arith;
+      faults = refl;
       bounded = omega (arith, offset_count-within set c.args.block _ left);
       counted = λ missing other. omega (arith, ap offset_count (one_missing set c.args.block _ missing is other));
     }
@@ -62,7 +62,7 @@ loop-gap-preserved g c =
       writing = Reads-then Bytes (Writing set c.args.block c.args.bytes.now c.loop-gap.gap-iterator) (Written c.in-Some.gap.start _) (Writing set c.args.block c.args.bytes.now c.next.new.self) (g.D.Drive.state c.args.drive.now) (g.D.Drive.state c.loop-gap.drive) (g.D.Drive.state c.write_at.new.self) kept.writing c.in_ok-write_at.ensures.written
           (writing_more set c.args.block c.args.bytes.now c.loop-gap.gap-iterator c.in-Some.gap c.next.new.self _ kept.left first c.requires.block refl);
       goes = Goes-then (g.D.Drive.state c.args.drive.now) (g.D.Drive.state c.loop-gap.drive) (g.D.Drive.state c.write_at.new.self) kept.goes c.write_at.ensures.goes;
-      faults = omega (arith, kept.faults, c.write_at.ensures.cause.later);
+      faults = c.in_ok-write_at.ensures.cause.kept ∙ kept.faults;
       bounded = omega (arith, kept.bounded, counts);
       counted = λ missing is. omega (arith, kept.counted missing is, counts);
     }

@@ -14,7 +14,7 @@ invariant-loop-gap g l = record {
   left : AreLeft l.set.ranges l.block l.gap-iterator;
   writing : Reads Bytes (Writing l.set.ranges l.block l.bytes l.gap-iterator) (g.D.Drive.state l.initial.drive) (g.D.Drive.state l.drive);
   goes : Goes (g.D.Drive.state l.initial.drive) (g.D.Drive.state l.drive);
-  faults : (g.D.Drive.state l.initial.drive).faults ≤ (g.D.Drive.state l.drive).faults;
+  faults : (g.D.Drive.state l.drive).faults ≡ (g.D.Drive.state l.initial.drive).faults;
   bounded : l.written + offset_count l.gap-iterator ≤ l.block.end;
   counted : (missing : List Range) → IsMissing l.set.ranges l.block missing → l.written + offset_count l.gap-iterator ≡ offset_count missing;
 }
