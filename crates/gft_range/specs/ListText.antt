@@ -1,7 +1,8 @@
 -- Lists of ranges in text, as the parameter of REST in extended block mode (GFD.20).
 use Rattle.std.specs.Prelude.{◌≡◌, ℕ, ◌+◌, ◌<◌, ◌^◌, ◌≤◌, ◌⊎◌, ◌↔◌, ◌++◌, List, [], ◌∷◌, length, decimal}
 use Rattle.std.specs.List.{AllZip, AllByRecursion, sum_by, flat_map}
-use Rattle.gft_base.specs.Words.{IsNumber, parts_at}
+use Rattle.gft_base.specs.Words.{IsNumber, comma, dash, digit_zero, parts_at}
+use Rattle.gft_range.specs.declared.TheConstants.{MAX_ITEMS}
 use Rattle.gft_range.specs.declared.range.Range.{Range}
 use Rattle.gft_range.specs.Range.{HasOffset}
 use Rattle.gft_range.specs.Normal.{IsNormal}
@@ -12,7 +13,7 @@ use Rattle.gft_range.specs.declared.list.ListError.TheVariants.{BadList, TooMany
 
 -- the text is these numbers, with `-` between them
 abbrev pub AreDashed : List ℕ → List ℕ → Type 0
-AreDashed text numbers = AllZip IsNumber (parts_at 45 text) numbers
+AreDashed text numbers = AllZip IsNumber (parts_at dash text) numbers
 
 -- the text is `a-b` with a at most b, or `b` alone, which means `0-b`
 abbrev pub IsItem : List ℕ → Range → Type 0
@@ -22,13 +23,13 @@ IsItem text r =
 
 -- the parts between the commas
 abbrev pub items_of : List ℕ → List (List ℕ)
-items_of text = parts_at 44 text
+items_of text = parts_at comma text
 
--- the text has at most 512 items, and the set is the normal list of their offsets
+-- the text has at most MAX_ITEMS items, and the set is the normal list of their offsets
 pub record IsList (text : List ℕ) (set : List Range) : Type 0 where
   pub items : List Range
   pub read : AllZip IsItem (items_of text) items
-  pub few : length (items_of text) ≤ 512
+  pub few : length (items_of text) ≤ MAX_ITEMS
   pub normal : IsNormal set
   pub offsets : (x : ℕ) → HasOffset set x ↔ HasOffset items x
 
@@ -44,11 +45,11 @@ pub record FirstBadAt (text : List ℕ) (at : ℕ) : Type 0 where
   pub ill : (r : Range) → ¬ IsItem bad r
   pub place : at ≡ sum_by (λ item. length item + 1) front
 
--- which refusal a text gets: too many items come before an ill-formed one
-abbrev pub Refuses : List ℕ → ListError → Type 0
-Refuses text (TooMany items) = (items ≡ length (items_of text)) × (512 < items)
-Refuses text (BadList at) = (length (items_of text) ≤ 512) × FirstBadAt text at
-Refuses text OutOfMemory = Unit {0}
+-- which refusal a text gets: too many items come before an ill-formed one, and before memory is asked for
+abbrev pub RefusesList : List ℕ → ListError → Type 0
+RefusesList text (TooMany items) = (items ≡ length (items_of text)) × (MAX_ITEMS < items)
+RefusesList text (BadList at) = (length (items_of text) ≤ MAX_ITEMS) × FirstBadAt text at
+RefusesList text OutOfMemory = length (items_of text) ≤ MAX_ITEMS
 
 -- a text that is refused is no list
 abbrev pub HasNoList : List ℕ → ListError → Type 0
@@ -59,13 +60,13 @@ HasNoList text OutOfMemory = Unit {0}
 -- ---- what is written
 
 -- one range as it is written, `a-b`
-abbrev pub range_text : Range → List ℕ
-range_text r = decimal r.start ++ 45 ∷ decimal r.end
+abbrev pub item_text : Range → List ℕ
+item_text r = decimal r.start ++ dash ∷ decimal r.end
 
--- the one text of a normal list: its ranges with `,` between them, or `0-0` where there is none
+-- the one text of a normal list: its ranges with commas between them, or `0-0` where there is none
 abbrev pub list_text : List Range → List ℕ
-list_text [] = 48 ∷ 45 ∷ 48 ∷ []
-list_text (r ∷ rs) = range_text r ++ flat_map (λ q. 44 ∷ range_text q) rs
+list_text [] = digit_zero ∷ dash ∷ digit_zero ∷ []
+list_text (r ∷ rs) = item_text r ++ flat_map (λ q. comma ∷ item_text q) rs
 
 -- the ends are numbers of 64 bits
 abbrev pub FitRanges : List Range → Type 0

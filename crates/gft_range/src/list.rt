@@ -1,8 +1,10 @@
-ghost use Rattle.std.specs.Prelude.{◌≡◌, ◌<◌, ◌≤◌, ◌^◌, ℕ, ◌++◌, List, length, IfOk, IfErr, OnOk, MatchOption, ◌+◌, ◌↔◌, ◌⊎◌};
+ghost use Rattle.std.specs.Prelude.{◌≡◌, ◌<◌, ◌≤◌, ◌^◌, ℕ, ◌++◌, List, length, IfOk, IfErr, OnOk};
+ghost use Rattle.std.specs.Prelude.{MatchOption, ◌+◌, ◌↔◌, ◌⊎◌};
 ghost use Rattle.std.specs.String.{string_bytes};
 ghost use Rattle.gft_range.specs.Range.{InRange, HasOffset};
 ghost use Rattle.gft_range.specs.Normal.{IsNormal};
-ghost use Rattle.gft_range.specs.ListText.{IsItem, IsList, HasNoList, FirstBadAt, Refuses, FitRanges, items_of, range_text, list_text};
+ghost use Rattle.gft_range.specs.ListText.{IsItem, IsList, HasNoList, FirstBadAt, RefusesList};
+ghost use Rattle.gft_range.specs.ListText.{FitRanges, items_of, item_text, list_text};
 ghost use Rattle.gft_range.specs.Adding.{AddsItems};
 ghost use Rattle.gft_range.specs.declared.range.Range.{Range};
 
@@ -19,7 +21,7 @@ pub enum ListError {
     /// The first item that is ill-formed begins at this byte.
     #[error("bad item at byte {at}")]
     BadList { at: usize },
-    /// There are more than 512 items, the ill-formed ones counted too.
+    /// There are more than `MAX_ITEMS` items, the ill-formed ones counted too.
     #[error("{items} items")]
     TooMany { items: usize },
     #[error("out of memory")]
@@ -39,13 +41,15 @@ impl From<OutOfMemory> for ListError {
 
 impl RangeSet {
     /// Reads a list of ranges: items `a-b`, or `b` for `0-b`, in any order and with commas between
-    /// them. Ends are exclusive and have 64 bits, a is at most b, and there are at most 512 items.
+    /// them. Ends are exclusive and have 64 bits, a is at most b, and there are at most
+    /// `MAX_ITEMS` items.
     ///
-    /// `TooMany` where there are more items, else `BadList` where one is ill-formed; a text without
-    /// a byte is one ill-formed item. `OutOfMemory` where there is no room for the set.
+    /// `TooMany` if there are more items, else `BadList` if one is ill-formed; a text without a byte
+    /// is one ill-formed item. `OutOfMemory` if there is no room for a set of that many ranges; a
+    /// text of more items never gives it.
     pub fn parse_list(alloc: Global, text: &[u8]) -> Result<RangeSet, ListError>
         ensures list { IfOk result (λ set. IsList text.now set.ranges) }
-        ensures refused { IfErr result (Refuses text.now) }
+        ensures refused { IfErr result (RefusesList text.now) }
         ensures none { IfErr result (HasNoList text.now) }
         ensures normal { IfOk result (λ set. IsNormal set.ranges) }
     {
@@ -61,10 +65,10 @@ impl RangeSet {
         }
     }
 
-    /// The text of the set's normal list, which has at most 512 ranges: items `a-b`, ascending, or
-    /// `0-0` for the set without offsets. `OutOfMemory` where the text can't be allocated.
+    /// The text of the set's normal list, which has at most `MAX_ITEMS` ranges: items `a-b`, ascending, or
+    /// `0-0` for the set without offsets. `OutOfMemory` if the text can't be allocated.
     pub fn write_list(&self) -> Result<Vec<u8>, OutOfMemory>
-        requires few { length self.now.ranges ≤ 512 }
+        requires few { length self.now.ranges ≤ MAX_ITEMS }
         ensures text { IfOk result (λ text. text.items ≡ list_text self.now.ranges) }
         ensures read { IfOk result (λ text. IsList text.items self.now.ranges) }
         ensures normal { IsNormal self.now.ranges }
@@ -97,7 +101,8 @@ fn add(set: &mut RangeSet, range: Range)
     requires room { 1 ≤ set.old.spare }
     requires normal { IsNormal set.old.ranges }
     ensures normal { IsNormal set.new.ranges }
-    ensures union { (x : ℕ) → HasOffset set.new.ranges x ↔ (HasOffset set.old.ranges x ⊎ InRange range x) }
+    ensures union { (x : ℕ) →
+        HasOffset set.new.ranges x ↔ (HasOffset set.old.ranges x ⊎ InRange range x) }
     ensures spare { set.old.spare ≤ set.new.spare + 1 }
 {
     if range.start < range.end {
@@ -144,7 +149,7 @@ fn write_ranges(alloc: Global, ranges: &[Range]) -> Result<Vec<u8>, OutOfMemory>
 
 /// Adds the range `a-b` to the text.
 fn write_range(text: &mut String, range: Range) -> Result<(), OutOfMemory>
-    ensures text { OnOk result (string_bytes text.new ≡ string_bytes text.old ++ range_text range) }
+    ensures text { OnOk result (string_bytes text.new ≡ string_bytes text.old ++ item_text range) }
     ensures fit { (range.start < 2 ^ 64) × (range.end < 2 ^ 64) }
 {
     write!(text, "{}-{}", range.start, range.end)?;

@@ -21,6 +21,7 @@ fn range(start: u64, end: u64) -> Range {
 /// Asserts that the set's normal list is this one.
 fn is_list(rt: &impl Abort, set: &RangeSet, list: &[Range]) {
     assert_eq!(rt; set.count(), list.len());
+    assert_eq!(rt; set.as_slice(), list);
     for (i, range) in list.iter().enumerate() {
         assert_eq!(rt; set.nth(i), Some(*range), "at {i}");
     }
@@ -67,6 +68,8 @@ fn a_copy_stays_when_the_set_is_cleared(rt: HostRuntime) -> Result<(), Fail> {
     let mut set = set_of(&rt, rt.alloc(), &[range(0, 5), range(7, 9)])?;
     let copy = set.copy()?;
     set.clear();
+    assert!(rt; set != copy);
+    assert!(rt; copy.copy()? == copy);
     is_list(&rt, &set, &[]);
     assert_eq!(rt; set.first_gap(), None);
     assert_eq!(rt; set.end(), 0);
