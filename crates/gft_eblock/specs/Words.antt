@@ -1,5 +1,6 @@
 -- The words of this crate that the clauses and proofs of other crates may cite.
 pub use Rattle.gft_eblock.specs.Arrival.{Arrival, Arrives, At, Bad, Eod, Eof, Refusal, eods, totals}
-pub use Rattle.gft_eblock.specs.Arrivals.{HasEnded, IsUnfinished, arrivals, blocks_from, data_at}
+pub use Rattle.gft_eblock.specs.Arrivals.{HasEnded, IsUnfinished, data_at}
+unfoldable pub use Rattle.gft_eblock.specs.Arrivals.{arrivals, blocks_from}
 pub use Rattle.gft_eblock.specs.Channel.{IsDone, Reader, refusal_of, to_come, wanted}
 pub use Rattle.gft_eblock.specs.Feeding.{Advances, Fails, event_arrivals}

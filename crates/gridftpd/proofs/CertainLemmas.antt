@@ -1,5 +1,5 @@
 -- A good input is refused by no line.
-use Rattle.std.proofs.Common.{◌≡◌, ℕ, ◌<◌, ◌⊎◌, List, [], ◌∷◌, ◌++◌, append_assoc, append-nil, length, take, Option, Some, None, IsSome, refl, sym, ap, ◌∙◌, subst, arith, inl, inr}
+use Rattle.std.proofs.Common.{◌≡◌, ℕ, ◌<◌, List, [], ◌∷◌, ◌++◌, append_assoc, append-nil, length, take, Option, Some, None, IsSome, refl, sym, ap, ◌∙◌, subst, arith, inl, inr}
 use Rattle.std.proofs.lemmas.List.{take-append-le}
 use Rattle.gft_eblock.specs.Words.{Arrival, Refusal, At, Eof, Eod, Bad, eods, arrivals, data_at, IsUnfinished, HasEnded}
 use Rattle.gft_range.specs.declared.Range.{Range}

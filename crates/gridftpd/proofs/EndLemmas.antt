@@ -1,15 +1,14 @@
 -- What an intake that ended says of its stream.
-use Rattle.std.proofs.Common.{◌≡◌, ◌≢◌, ℕ, ◌<◌, ◌≤◌, ◌⊎◌, ◌↔◌, Bool, true, false, List, [], ◌∷◌, ◌++◌, length, length-append, take, drop, Option, Some, None, IsSome, append_assoc, append-nil, refl, sym, ap, ◌∙◌, subst, arith, inl, inr, Bor}
+use Rattle.std.proofs.Common.{◌≡◌, ◌≢◌, ℕ, ◌<◌, ◌≤◌, ◌⊎◌, ◌↔◌, false, List, [], ◌∷◌, ◌++◌, length, length-append, take, drop, Option, Some, None, IsSome, append_assoc, append-nil, refl, sym, ap, ◌∙◌, subst, arith, inl, inr, Bor}
 use Rattle.std.specs.Prelude.{slice_index, is_some, IfNone, IfSome}
 use Rattle.std.specs.Io.KnownBytes.{Consumes, IsAtEnd}
 use Rattle.std.proofs.lemmas.List.{take_all, get_or-take, take-append-drop, length-take-le}
 use Rattle.std.proofs.lemmas.Bool.{cases_lt}
 use Rattle.std.proofs.lemmas.Option.{slice_get-get_or, slice_get_past}
-use Rattle.gft_base.specs.Words.{Rose}
 use Rattle.gft_eblock.specs.Words.{Arrival, Bad, Arrives, totals, eods, arrivals, blocks_from, data_at, IsUnfinished, Reader, to_come, wanted, refusal_of, Advances, Fails, event_arrivals}
 use Rattle.gft_core.specs.Words.{kept, Done}
 use Rattle.gft_range.specs.declared.Range.{Range}
-use Rattle.gft_range.specs.Words.{HasOffset, KeptRanges, IsFirstGap, HasNoGap}
+use Rattle.gft_range.specs.Words.{HasOffset, IsFirstGap, HasNoGap}
 use Rattle.gft_drive.specs.Words.{DriveState, Reads, Same, CutTo}
 use Rattle.gft_drive.specs.declared.Part.TheVariants.{Bytes}
 use Rattle.gft_drive.proofs.Lemmas.{Reads-then}
@@ -26,16 +25,13 @@ use Rattle.gridftpd.proofs.DoneLemmas.{done_of}
 use Rattle.gridftpd.proofs.EventLemmas.{none_kept}
 use Rattle.gridftpd.specs.declared.intake.Intake.{Intake}
 use Rattle.gridftpd.specs.Cause.{told_by, IsLost, HasHole, IsFirstMissing, IsMiscounted, count_of, refusal_at, NeedsMoreRanges, EndsBad}
-use Rattle.gridftpd.specs.Drain.{IsStored, IsTaken}
+use Rattle.gridftpd.specs.declared.outcome.Outcome.{Outcome}
+use Rattle.gridftpd.specs.Drain.{DriveIsBlamed, IsStored, IsTaken}
 use Rattle.gridftpd.specs.Events.{events_of, IsKept}
 use Rattle.gridftpd.specs.Totals.{first_of}
 use Rattle.gridftpd.specs.Follows.{Follows, HasKeptIn}
 
 -- ---- the bytes that were taken
-
-pub is_false : (b : Bool) → (b ≡ true → ⊥) → b ≡ false
-is_false true no_more = absurd (no_more refl)
-is_false false no_more = refl
 
 pub Consumes-none : (left : Option (List ℕ)) → Consumes left left []
 Consumes-none None = tt
@@ -200,11 +196,11 @@ module _ {D : Type 0} (state : D → DriveState) (start : DriveState) (stream : 
       }
 
 -- a set without a gap has the offsets below its end
-pub below_end : (set one two : KeptRanges) (end : ℕ) (missing : Option Range) → one ≡ set → two ≡ set → missing ≡ None → IfNone missing (HasNoGap one.ranges) → (HasNoGap two.ranges → (x : ℕ) → HasOffset two.ranges x ↔ (x < end)) → (x : ℕ) → HasOffset set.ranges x ↔ (x < end)
+pub below_end : (set one two : List Range) (end : ℕ) (missing : Option Range) → one ≡ set → two ≡ set → missing ≡ None → IfNone missing (HasNoGap one) → (HasNoGap two → (x : ℕ) → HasOffset two x ↔ (x < end)) → (x : ℕ) → HasOffset set x ↔ (x < end)
 below_end set one two end missing first second none no_gap whole =
-    let nothing : HasNoGap one.ranges = subst (λ (o : Option Range). IfNone o (HasNoGap one.ranges)) none no_gap in
-    let moved : HasNoGap two.ranges = subst (λ (kept : KeptRanges). HasNoGap kept.ranges) (first ∙ sym second) nothing in
-    subst (λ (kept : KeptRanges). (x : ℕ) → HasOffset kept.ranges x ↔ (x < end)) second (whole moved)
+    let nothing : HasNoGap one = subst (λ (o : Option Range). IfNone o (HasNoGap one)) none no_gap in
+    let moved : HasNoGap two = subst HasNoGap (first ∙ sym second) nothing in
+    subst (λ (rs : List Range). (x : ℕ) → HasOffset rs x ↔ (x < end)) second (whole moved)
 
 -- what was stored since the drive was attached and emptied was stored since before
 pub stored_since : (stream : List ℕ) (first attached emptied last : DriveState) → Reads Bytes Same first attached → Reads Bytes (CutTo 0) attached emptied → IsStored stream emptied last → IsStored stream first last
@@ -215,9 +211,10 @@ stored_since stream first attached emptied last synced cut stored = (
       (λ xs ys zs one has. has),
 )
 
--- a count that rose later rose since before
-pub rose_since : (first attached emptied begun last back : DriveState) → first.faults ≤ attached.faults → attached.faults ≤ emptied.faults → begun ≡ emptied → Rose begun.faults last.faults → last ≡ back → Rose first.faults back.faults
-rose_since first attached emptied begun last back one two same rose given =
-    let here : begun.faults ≡ emptied.faults = ap (λ (s : DriveState). s.faults) same in
+-- the drive is blamed since before as it is since it was attached and emptied
+pub blamed_since : (ending : Outcome) (first attached emptied begun last back : DriveState) → attached.faults ≡ first.faults → emptied.faults ≡ attached.faults → begun ≡ emptied → DriveIsBlamed ending begun.faults last.faults → last ≡ back
+    → DriveIsBlamed ending first.faults back.faults
+blamed_since ending first attached emptied begun last back one two same blamed given =
+    let here : begun.faults ≡ first.faults = ap (λ (s : DriveState). s.faults) same ∙ two ∙ one in
     let there : last.faults ≡ back.faults = ap (λ (s : DriveState). s.faults) given in
-    omega arith
+    subst (λ (n : ℕ). DriveIsBlamed ending first.faults n) there (subst (λ (n : ℕ). DriveIsBlamed ending n last.faults) here blamed)

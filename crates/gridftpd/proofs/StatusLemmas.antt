@@ -7,7 +7,7 @@ use Rattle.gridftpd.specs.declared.status.Status.{Status}
 use Rattle.gridftpd.specs.declared.status.Status.TheVariants as status
 use Rattle.gridftpd.specs.Status.{number_of, status_of}
 use Rattle.gridftpd.specs.Line.{text_of}
-use Rattle.gridftpd.specs.Drain.{Answers, FaultCounts, NoneCounted, NoneRose, InputIsBlamed, DriveIsBlamed, IsMade, IsPut, IsRefusal, IsTold}
+use Rattle.gridftpd.specs.Drain.{Answers, FaultCounts, NoneCounted, NoneRose, InputIsBlamed, DriveIsBlamed, IsMade, IsRefusal, IsTold}
 
 -- which outcome a status stands for
 record StandsFor (ending : Outcome) (number : ℕ) : Type 0 where
@@ -35,7 +35,6 @@ pub record Told (ending : Outcome) (number : ℕ) (before after : Option (List �
 
 told_so : (ending : Outcome) (own : Status) (before after : Option (List ℕ)) (faults risen : ℕ) → IsTold ending own before after faults risen → Told ending (number_of own) before after
 told_so ending own before after faults risen (inl (inl put)) =
-    let own_is : Status = status_of ending in
     let stands = stands_for ending in
     subst (λ (s : Status). Told ending (number_of s) before after) (sym put.0)
     (record { complete = stands.complete; refused = λ one. (stands.refused one, put.1); not_usage = stands.not_usage })
@@ -94,20 +93,18 @@ answers_of ending own old new before after (inr (made, inl put)) input drive =
     subst (λ (s : Status). Answers s old new before after) (sym put.0) (calm old new before after put.2 (made_blames_none ending old.input new.input old.drive new.drive made input drive), put.1)
 answers_of ending own old new before after (inr (made, inr failed)) input drive = subst (λ (s : Status). Answers s old new before after) (sym failed.0) failed.1
 
--- other words blame nobody
-pub usage_answers : (own : Status) (line : List ℕ) (old new : FaultCounts) (before after : Option (List ℕ)) → (new.input ≡ old.input) × (new.drive ≡ old.drive)
-    → IsPut status.Usage line own before after old.output new.output → (NoneCounted old new → Appends before after line → Answers status.Usage old new before after) → Answers own old new before after
-usage_answers own line old new before after same (inl put) so =
-    subst (λ (s : Status). Answers s old new before after) (sym put.0) (so (calm old new before after put.2 same) put.1)
-usage_answers own line old new before after same (inr failed) so = subst (λ (s : Status). Answers s old new before after) (sym failed.0) failed.1
-
 -- where no count rose, what isn't refused is stored, or memory was
-pub certain_of : (own : Status) (old new : FaultCounts) (before after : Option (List ℕ)) → Answers own old new before after → NoneRose old new → number_of own ≢ 1 → number_of own ≢ 2
+certain_by : (own : Status) (old new : FaultCounts) (before after : Option (List ℕ)) → Answers own old new before after → NoneRose old new → number_of own ≢ 1 → number_of own ≢ 2
     → (number_of own ≡ 0) ⊎ (number_of own ≡ 6)
-certain_of status.Complete old new before after answers none refused usage = inl refl
-certain_of status.Refused old new before after answers none refused usage = absurd (refused refl)
-certain_of status.Usage old new before after answers none refused usage = absurd (usage refl)
-certain_of status.ReadFailed old new before after answers none refused usage = absurd (none.input answers.0)
-certain_of status.PutFailed old new before after answers none refused usage = absurd (none.output answers)
-certain_of status.DriveFailed old new before after answers none refused usage = absurd (none.drive answers.2)
-certain_of status.OutOfMemory old new before after answers none refused usage = inr refl
+certain_by status.Complete old new before after answers none refused usage = inl refl
+certain_by status.Refused old new before after answers none refused usage = absurd (refused refl)
+certain_by status.Usage old new before after answers none refused usage = absurd (usage refl)
+certain_by status.ReadFailed old new before after answers none refused usage = absurd (none.input answers.0)
+certain_by status.PutFailed old new before after answers none refused usage = absurd (none.output answers)
+certain_by status.DriveFailed old new before after answers none refused usage = absurd (none.drive answers.2)
+certain_by status.OutOfMemory old new before after answers none refused usage = inr refl
+
+pub certain_of : (own : Status) (number : ℕ) (old new : FaultCounts) (before after : Option (List ℕ)) → number ≡ number_of own → Answers own old new before after → NoneRose old new → number ≢ 1 → number ≢ 2
+    → (number ≡ 0) ⊎ (number ≡ 6)
+certain_of own number old new before after is answers none =
+    subst (λ (n : ℕ). n ≢ 1 → n ≢ 2 → (n ≡ 0) ⊎ (n ≡ 6)) (sym is) (certain_by own old new before after answers none)

@@ -25,7 +25,8 @@ pub record IsTaken (before after : Option (List ℕ)) (stream : List ℕ) : Type
 -- the transfer is done, and the data is now its kept bytes and no byte more
 abbrev pub IsStored : List ℕ → DriveState → DriveState → Type 0
 IsStored stream old new =
-    Done (events_of (told_by stream)) × Reads Bytes (λ before after. IsKept (events_of (told_by stream)) after) old new
+    Done (events_of (told_by stream))
+    × Reads Bytes (λ before after. IsKept (events_of (told_by stream)) after) old new
 
 -- the data is now the source, and no byte more
 abbrev pub IsFile : List ℕ → List ℕ → List ℕ → Type 0

@@ -5,8 +5,8 @@ use Rattle.gft_core.specs.declared.CoreEvent.{CoreEvent}
 use Rattle.gft_core.specs.declared.CoreEvent.TheVariants as event
 use Rattle.gft_core.specs.Words.{kept}
 
--- what an arrival is to the transfer, on lane 0 and channel 0: a byte is a block of one byte, and a bad header
--- loses the channel
+-- what an arrival is to the transfer, on lane 0 and channel 0: a byte is a block of one byte, and a bad
+-- header loses the channel
 abbrev pub event_of : Arrival → CoreEvent
 event_of (At offset value) = event.Block 0 0 offset (value ∷ []) false
 event_of (Eof total) = event.Eof total

@@ -33,7 +33,8 @@ hole_text total eods missing =
 unfoldable pub bad_block_text : BadBlock → List ℕ
 bad_block_text bad =
     codes "426 Bad block at " ++ (decimal bad.place ++ (codes ": flags " ++ (decimal bad.flags
-    ++ (codes ", count " ++ (decimal bad.count ++ (codes ", offset " ++ (decimal bad.offset ++ codes ".\n")))))))
+    ++ (codes ", count " ++ (decimal bad.count
+    ++ (codes ", offset " ++ (decimal bad.offset ++ codes ".\n")))))))
 
 unfoldable pub count_refused_text : EodError → List ℕ
 count_refused_text (BadTotal total) = codes "426 Bad total: " ++ (decimal total ++ codes ".\n")

@@ -70,9 +70,9 @@ pub fn drain<I: Source, W: Sink, D: Drive + Drop, O: Origin>(
     // Each status has its line, and its faults: none is passed over.
     ensures told { (status : Status) × (result.0 ≡ number_of status)
         × IsSomeAnd result.1 (λ back. Answers status
-            (record { input = I.faults input.old; output = W.faults out.old; drive = (D.state drive).faults })
-            (record { input = I.faults input.new; output = W.faults out.new; drive = (D.state back).faults })
-            (W.written out.old) (W.written out.new)) }
+        (record { input = I.faults input.old; output = W.faults out.old; drive = (D.state drive).faults })
+        (record { input = I.faults input.new; output = W.faults out.new; drive = (D.state back).faults })
+        (W.written out.old) (W.written out.new)) }
 
     // Other words touch nothing but the line.
     ensures other_words { ¬ AreDrainWords words.now
@@ -84,8 +84,8 @@ pub fn drain<I: Source, W: Sink, D: Drive + Drop, O: Origin>(
     ensures certain { AreDrainWords words.now
         → (bytes : List ℕ) → I.left input.old ≡ Some bytes → IsGood bytes
         → IsSomeAnd result.1 (λ back. NoneRose
-            (record { input = I.faults input.old; output = W.faults out.old; drive = (D.state drive).faults })
-            (record { input = I.faults input.new; output = W.faults out.new; drive = (D.state back).faults }))
+        (record { input = I.faults input.old; output = W.faults out.old; drive = (D.state drive).faults })
+        (record { input = I.faults input.new; output = W.faults out.new; drive = (D.state back).faults }))
         → (result.0 ≡ 0) ⊎ (result.0 ≡ 6) }
 
     // From an honest sender of a named source, status 0 comes only with the equal file.

@@ -59,7 +59,7 @@ impl<D: Drive + Drop> Intake<D> {
         ensures caused { (stream : List ℕ) × IsTaken (I.left input.old) (I.left input.new) stream
             × IsCause result stream (I.left input.new)
             × (result ≡ Outcome.Complete → IsStored stream
-                (keep_of D.state self.old.keep).drive (keep_of D.state self.new.keep).drive) }
+            (keep_of D.state self.old.keep).drive (keep_of D.state self.new.keep).drive) }
         ensures input { InputIsBlamed result (I.faults input.old) (I.faults input.new) }
         ensures drive { DriveIsBlamed result (keep_of D.state self.old.keep).drive.faults
             (keep_of D.state self.new.keep).drive.faults }

@@ -14,7 +14,13 @@ type Block = (u8, u64, &'static str);
 
 /// A recording, how many of its bytes are there, and what comes of it: the status, the line, and the
 /// file where it is told.
-type Row = (&'static [Block], usize, u8, &'static str, Option<&'static str>);
+type Row = (
+    &'static [Block],
+    usize,
+    u8,
+    &'static str,
+    Option<&'static str>,
+);
 
 const WORDS: &[&str] = &["drain", "a.dat"];
 
@@ -39,9 +45,27 @@ static RECORDINGS: [Row; 15] = [
     (HELLO, ALL, 0, STORED, Some("hello")),
     (&[(64, 1, ""), (8, 0, "")], ALL, 0, STORED, Some("")),
     (TWICE, ALL, 0, STORED, Some("HELLOX")),
-    (&[(64, 1, ""), (64, 1, ""), (0, 0, "ab"), (8, 0, "")], ALL, 0, STORED, Some("ab")),
-    (HELLO, 16, 1, "426 Channel lost: lane 0, channel 0, 16 bytes taken.\n", Some("")),
-    (HELLO, 20, 1, "426 Channel lost: lane 0, channel 0, 20 bytes taken.\n", None),
+    (
+        &[(64, 1, ""), (64, 1, ""), (0, 0, "ab"), (8, 0, "")],
+        ALL,
+        0,
+        STORED,
+        Some("ab"),
+    ),
+    (
+        HELLO,
+        16,
+        1,
+        "426 Channel lost: lane 0, channel 0, 16 bytes taken.\n",
+        Some(""),
+    ),
+    (
+        HELLO,
+        20,
+        1,
+        "426 Channel lost: lane 0, channel 0, 20 bytes taken.\n",
+        None,
+    ),
     (
         &[(0, 0, "hello"), (0, 7, "xy"), (64, 1, ""), (8, 0, "")],
         ALL,
@@ -49,7 +73,13 @@ static RECORDINGS: [Row; 15] = [
         "426 Hole: total 1, EODs 1, first missing 5-7.\n",
         None,
     ),
-    (HELLO, 0, 1, "426 Hole: total none, EODs 0, first missing none.\n", Some("")),
+    (
+        HELLO,
+        0,
+        1,
+        "426 Hole: total none, EODs 0, first missing none.\n",
+        Some(""),
+    ),
     (
         &[(0, 2, "cd"), (0, 0, "ab"), (8, 4, "e")],
         ALL,
@@ -57,11 +87,29 @@ static RECORDINGS: [Row; 15] = [
         "426 Hole: total none, EODs 1, first missing none.\n",
         None,
     ),
-    (&[(64, 2, ""), (8, 0, "")], ALL, 1, "426 Hole: total 2, EODs 1, first missing none.\n", None),
-    (&[(64, 2, ""), (64, 3, "")], ALL, 1, "426 Two totals: 2 and 3.\n", None),
+    (
+        &[(64, 2, ""), (8, 0, "")],
+        ALL,
+        1,
+        "426 Hole: total 2, EODs 1, first missing none.\n",
+        None,
+    ),
+    (
+        &[(64, 2, ""), (64, 3, "")],
+        ALL,
+        1,
+        "426 Two totals: 2 and 3.\n",
+        None,
+    ),
     (&[(64, 0, "")], ALL, 1, "426 Bad total: 0.\n", None),
     (&[(64, 1025, "")], ALL, 1, "426 Bad total: 1025.\n", None),
-    (&[(16, 0, "a")], ALL, 1, "426 Bad block at 0: flags 16, count 1, offset 0.\n", None),
+    (
+        &[(16, 0, "a")],
+        ALL,
+        1,
+        "426 Bad block at 0: flags 16, count 1, offset 0.\n",
+        None,
+    ),
     (
         &[(0, 0, "hello"), (64, 1, "x")],
         ALL,
@@ -127,8 +175,7 @@ fn run<O: Origin>(
     let words = owned(alloc, words)?;
     let mut out = MemorySink::new(alloc, 1_000, puts)?;
     let drive = MemoryDrive::new(alloc, named(words.as_slice()), 1_000, u32::MAX, calls)?;
-    let (status, back) =
-        drain::<_, _, _, O>(alloc, words.as_slice(), input, &mut out, drive);
+    let (status, back) = drain::<_, _, _, O>(alloc, words.as_slice(), input, &mut out, drive);
     Ok((status, out, back))
 }
 
@@ -139,7 +186,13 @@ fn a_recording_is_stored_or_refused_by_its_line(rt: HostRuntime) -> Result<(), F
         for &(blocks, there, status, line, file) in &RECORDINGS {
             let stream = recording(alloc, blocks, there)?;
             let mut input = MemorySource::new(stream, most, Vec::new(alloc));
-            let (given, out, back) = run::<Unknown>(alloc, WORDS, &mut input, Vec::new(alloc), &[])?;
+            let (given, out, back) = run::<Unknown>(
+                alloc,
+                WORDS,
+                &mut input,
+                Vec::new(alloc),
+                &[],
+            )?;
             assert_eq!(rt; given, status, "{line}");
             assert_eq!(rt; out.bytes(), line.as_bytes(), "{line}");
             let stored = back.as_ref().map(|drive| drive.bytes());
@@ -237,8 +290,13 @@ fn each_fault_has_its_status(rt: HostRuntime) -> Result<(), Fail> {
             part: Part::Bytes,
             number: sync,
         }];
-        let (given, out, _back) =
-            run::<Unknown>(alloc, WORDS, &mut input, vec![in alloc; put]?, &calls)?;
+        let (given, out, _back) = run::<Unknown>(
+            alloc,
+            WORDS,
+            &mut input,
+            vec![in alloc; put]?,
+            &calls,
+        )?;
         assert_eq!(rt; given, status);
         assert_eq!(rt; out.bytes(), line.as_bytes());
     }

@@ -1,8 +1,8 @@
-use Rattle.std.proofs.Common.{◌≡◌, ◌≢◌, ◌⊎◌, List, Some, IsSome, true, false, sym, subst, ap, ◌∙◌, inl, inr}
+use Rattle.std.proofs.Common.{◌≡◌, ◌≢◌, ◌⊎◌, List, Some, IsSome, true, false, sym, subst, ◌∙◌, inl, inr}
 use Rattle.std.specs.Prelude.{IfSome, IfNone}
-use Rattle.gft_keep.specs.Words.{keep_of}
 use Rattle.gft_range.specs.declared.Range.{Range}
-use Rattle.gft_range.specs.Words.{IsFirstGap, HasNoGap, KeptRanges}
+use Rattle.gft_range.specs.Words.{IsFirstGap, HasNoGap}
+use Rattle.gft_keep.specs.Words.{keep_of}
 use Rattle.gridftpd.proofs.EndLemmas.{hole_from, done_from, stored_from, below_end, is_none}
 use Rattle.gridftpd.proofs.intake.Intake.finish.Goals as goal
 use Rattle.gridftpd.proofs.intake.Intake.finish.Goals.{then-not-is_met-via-then-not-is_met, then-not-is_met-via-else-not-is_met+then-is_some}
@@ -11,7 +11,7 @@ pub returns-then-not-is_met-clause-caused : goal.returns-then-not-is_met-clause-
 returns-then-not-is_met-clause-caused g c start stream left follows done =
     let set = (keep_of g.D.Drive.state c.args.self.now.keep).ranges in
     let count = c.args.self.now.count in
-    let same : c.ranges-2.result.now.ranges ≡ set = ap (λ (kept : KeptRanges). kept.ranges) c.ranges-2.ensures in
+    let same : c.ranges-2.result.now.ranges ≡ set = c.ranges-2.ensures in
     let missing = c.first_gap-missing.result in
     let gap : IfSome missing (IsFirstGap set) = subst (λ (rs : List Range). IfSome missing (IsFirstGap rs)) same c.first_gap-missing.ensures.gap in
     let no_gap : IfNone missing (HasNoGap set) = subst (λ (rs : List Range). IfNone missing (HasNoGap rs)) same c.first_gap-missing.ensures.none in
@@ -23,10 +23,12 @@ returns-then-not-is_met-clause-caused g c start stream left follows done =
 
 pub returns-in-Ok-clause-caused : goal.returns-in-Ok-clause-caused
 returns-in-Ok-clause-caused g c start stream left follows done =
-    let below = below_end c.args.self.now.keep.set c.ranges-2.result.now c.ranges-3.result.now c.end-end.result c.first_gap-missing.result c.ranges-2.ensures c.ranges-3.ensures (is_none c.first_gap-missing.result (sym c.is_some.ensures ∙ c.if-is_some.false)) c.first_gap-missing.ensures.none c.end-end.ensures.whole in
+    let set = (keep_of g.D.Drive.state c.args.self.now.keep).ranges in
+    let below = below_end set c.ranges-2.result.now.ranges c.ranges-3.result.now.ranges c.end-end.result c.first_gap-missing.result c.ranges-2.ensures c.ranges-3.ensures (is_none c.first_gap-missing.result (sym c.is_some.ensures ∙ c.if-is_some.false)) c.first_gap-missing.ensures.none c.end-end.ensures.whole in
     done_from g.D.Drive.state start stream c.args.self.now c.end-end.result follows done (c.is_met.ensures.met.0 c.if-not-is_met.false) c.is_met.ensures.count below
 
 pub returns-in-Ok-clause-complete : goal.returns-in-Ok-clause-complete
 returns-in-Ok-clause-complete g c start stream follows done complete =
-    let below = below_end c.args.self.now.keep.set c.ranges-2.result.now c.ranges-3.result.now c.end-end.result c.first_gap-missing.result c.ranges-2.ensures c.ranges-3.ensures (is_none c.first_gap-missing.result (sym c.is_some.ensures ∙ c.if-is_some.false)) c.first_gap-missing.ensures.none c.end-end.ensures.whole in
-    stored_from g.D.Drive.state start stream c.args.self.now c.end-end.result (g.D.Drive.state c.finish.new.self.drive) follows done (c.is_met.ensures.met.0 c.if-not-is_met.false) c.is_met.ensures.count below c.in-Ok.ensures.finished
+    let set = (keep_of g.D.Drive.state c.args.self.now.keep).ranges in
+    let below = below_end set c.ranges-2.result.now.ranges c.ranges-3.result.now.ranges c.end-end.result c.first_gap-missing.result c.ranges-2.ensures c.ranges-3.ensures (is_none c.first_gap-missing.result (sym c.is_some.ensures ∙ c.if-is_some.false)) c.first_gap-missing.ensures.none c.end-end.ensures.whole in
+    stored_from g.D.Drive.state start stream c.args.self.now c.end-end.result (keep_of g.D.Drive.state c.finish.new.self).drive follows done (c.is_met.ensures.met.0 c.if-not-is_met.false) c.is_met.ensures.count below c.in-Ok.ensures.finished.read

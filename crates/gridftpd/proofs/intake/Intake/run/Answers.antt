@@ -1,4 +1,4 @@
-use Rattle.std.proofs.Common.{◌≡◌, ◌<◌, ◌≤◌, ◌++◌, [], Bool, cond, take, arith, length, length-append, ap, subst, inl, inr}
+use Rattle.std.proofs.Common.{◌≡◌, ◌<◌, ◌≤◌, ◌++◌, [], Bool, cond, take, arith, length, length-append, ap, ◌∙◌, subst, inl, inr}
 use Rattle.std.proofs.lemmas.List.{length-take-le}
 use Rattle.gft_keep.specs.Words.{keep_of}
 use Rattle.gft_eblock.specs.Words.{wanted}
@@ -102,6 +102,6 @@ reads-preserved g c =
       follows = subst (λ (b : Bool). Follows g.D.Drive.state start (cond b 1 0) stream c.turn.new.self) more grown;
       not_done = λ done. cc (more, c.in-Ok-false.ensures.ended.1 done);
       room = omega (arith, kept.room, kept.follows.taken, grown.taken, length-append kept.stream piece, len, c.in-Ok.ensures.count.1, c.min.ensures, c.taken-room.ensures.taken, c.if-count-room.false);
-      read_faults = omega (arith, kept.read_faults, c.in-Ok.ensures.cause.later);
-      drive_faults = omega (arith, kept.drive_faults, c.turn.ensures.faults);
+      read_faults = c.in-Ok.ensures.cause.kept ∙ kept.read_faults;
+      drive_faults = c.in-Ok-false.ensures.drive ∙ kept.drive_faults;
     }

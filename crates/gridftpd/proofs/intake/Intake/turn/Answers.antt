@@ -1,14 +1,16 @@
-use Rattle.std.proofs.Common.{◌≡◌, Some, Err, ap, sym, subst, ◌∙◌, refl}
+use Rattle.std.proofs.Common.{◌≡◌, Some, ap, sym, subst, ◌∙◌, refl}
 use Rattle.gft_eod.specs.Words.{Count, eof_refusal, eod_refusal}
 use Rattle.gft_eblock.specs.Words.{Eof, Eod, event_arrivals}
+use Rattle.gft_keep.specs.declared.KeepError.{KeepError}
+use Rattle.gft_keep.specs.Words.{ShowsRefusal, block_of, keep_of}
 use Rattle.gridftpd.proofs.FollowLemmas.{follows_none, follows_piece, follows_eof, follows_eod}
-use Rattle.gridftpd.proofs.EndLemmas.{is_false, bad_from, miscounted_from, ranges_from}
+use Rattle.gridftpd.proofs.EndLemmas.{bad_from, miscounted_from, ranges_from}
 use Rattle.gridftpd.proofs.intake.Intake.turn.Goals as goal
 
 pub returns-in-Ok-store-clause-follows : goal.returns-in-Ok-store-clause-follows
 returns-in-Ok-store-clause-follows g c start stream follows =
     follows_piece g.D.Drive.state start stream c.args.piece.now c.args.self.now _ c.in-Ok.step follows c.in-Ok.ensures.ok (c.in-Ok.ensures.wanted c.requires.wanted) c.requires.wanted c.in-Piece.offset c.in-Piece.bytes
-    (c.in-Some.is ∙ ap (λ event. Some event) c.in-Piece.is) c.in-Ok-store.ensures.stored c.in-Ok-store.ensures.union c.in-Ok-store.ensures.holds c.store.ensures.goes (is_false c.store.new.self.broken (λ broke. let failed = c.in-Ok-store.ensures.broken.0 broke in cc)) refl
+    (c.in-Some.is ∙ ap (λ event. Some event) c.in-Piece.is) c.in-Ok-store.ensures.stored.read c.in-Ok-store.ensures.stored.union c.in-Ok-store.ensures.stored.holds c.store.ensures.goes c.in-Ok-store.ensures.stored.whole refl
 
 pub returns-in_default-clause-follows : goal.returns-in_default-clause-follows
 returns-in_default-clause-follows g c start stream follows =
@@ -39,8 +41,9 @@ returns-in-Err-clause-caused g c start stream left follows = bad_from g.D.Drive.
 
 pub returns-in-Err-RangesFull-clause-caused : goal.returns-in-Err-RangesFull-clause-caused
 returns-in-Err-RangesFull-clause-caused g c start stream left follows =
-    let full = c.in-Err-RangesFull.ensures.full_only_at_limit c.in-Err-RangesFull.kept (ap (λ error. Err error) c.in-Err-RangesFull.field-0-is) in (
-      full.0,
+    let set = (keep_of g.D.Drive.state c.args.self.now.keep).ranges in
+    let shows = subst (λ (error : KeepError). ShowsRefusal (keep_of g.D.Drive.state c.args.self.now.keep) (block_of c.in-Piece.offset c.in-Piece.bytes.now) error) c.in-Err-RangesFull.field-0-is c.in-Err-RangesFull.ensures.refused.shows in (
+      shows.0,
       ranges_from g.D.Drive.state start stream c.args.self.now c.args.piece.now c.in-Ok.step _ c.in-Piece.offset c.in-Piece.bytes follows c.in-Ok.ensures.ok (c.in-Ok.ensures.wanted c.requires.wanted)
-          (c.in-Some.is ∙ ap (λ event. Some event) c.in-Piece.is) full.1,
+          (c.in-Some.is ∙ ap (λ event. Some event) c.in-Piece.is) shows.1,
     )
