@@ -7,7 +7,7 @@ import sys
 import time
 
 TOP = os.path.dirname(os.path.dirname(os.path.realpath(__file__)))
-RUN_CRATE = os.path.join(TOP, "bin", "run-crate")
+BUILD_CRATE = os.path.join(TOP, "bin", "build-crate")
 
 
 def rows():
@@ -18,7 +18,7 @@ def rows():
 
 def crates_below(name):
     """The crates that this one stands on, lowest first, and itself."""
-    return subprocess.run([RUN_CRATE, "--below", name], capture_output=True, text=True, check=True).stdout.split()
+    return subprocess.run([BUILD_CRATE, "--below", name], capture_output=True, text=True, check=True).stdout.split()
 
 
 def copy_crates(folder, crates, leave_out=("out",)):
@@ -51,8 +51,7 @@ def build_over(folder, name, stands_on, main):
 
 def own_program(name):
     """A program of the repository, proved and built where that is needed."""
-    subprocess.run([RUN_CRATE, name], stdin=subprocess.DEVNULL, capture_output=True)
-    return os.path.join(TOP, "crates", name, "out", name)
+    return subprocess.run([BUILD_CRATE, name], stdin=subprocess.DEVNULL, capture_output=True, text=True, check=True).stdout.strip()
 
 
 def timed(words, source, folder="."):

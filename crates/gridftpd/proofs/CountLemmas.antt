@@ -2,6 +2,7 @@
 use Rattle.std.proofs.Common.{◌≡◌, ℕ, suc, ◌+◌, ◌≤◌, ◌⊎◌, List, [], ◌∷◌, ◌++◌, append-nil, append_assoc, ◌||◌, Option, Some, None, refl, sym, ap, ◌∙◌, subst, arith, inl, inr}
 use Rattle.std.proofs.lemmas.Bool.Decides.{eqb_tells}
 use Rattle.std.specs.Prelude.{nat_eq, nat_lt}
+use Rattle.gft_eod.specs.declared.TheConstants.{MAX_EODS}
 use Rattle.gft_eblock.specs.Words.{Arrival, At, Eof, Eod, Bad, totals, eods}
 use Rattle.gridftpd.specs.Totals.{first_of, AllAre}
 use Rattle.gridftpd.proofs.DoneLemmas.{SaysDone}
@@ -65,7 +66,7 @@ kept_total (Some kept) taken n is = elim (eqb_tells kept n) [
 pub Counts-eof : (list : List Arrival) (n : ℕ) (old new : Count) → Counts list old → eof_refusal old n ≡ None → new.total ≡ Some n → new.eods ≡ old.eods → Counts (list ++ Eof n ∷ []) new
 Counts-eof list n old new counts taken total same_eods =
     let all : totals (list ++ Eof n ∷ []) ≡ totals list ++ n ∷ [] = totals-append list (Eof n ∷ []) in
-    let kept = kept_total old.total old.eods n (else_none (nat_eq n 0 || nat_lt 1024 n) (BadTotal n) (totals_refusal old.total old.eods n) taken) in
+    let kept = kept_total old.total old.eods n (else_none (nat_eq n 0 || nat_lt MAX_EODS n) (BadTotal n) (totals_refusal old.total old.eods n) taken) in
     let first : first_of (totals list ++ n ∷ []) ≡ Some n = first_then (totals list) n (elim kept [ inl none ↦ inl (sym counts.total ∙ none) | inr some ↦ inr (sym counts.total ∙ some) ]) in
     record {
       total = total ∙ sym first ∙ ap first_of (sym all);
@@ -90,7 +91,7 @@ Counts-eof list n old new counts taken total same_eods =
 abbrev nothing : Option EodError
 nothing = None
 
-refused_fine : (number end : ℕ) (earlier : List Arrival) (arrival : Arrival) (later : List Arrival) (error : EodError) → 1 ≤ number → number ≤ 1024 → AllAre number (totals (earlier ++ arrival ∷ later)) → eods (earlier ++ arrival ∷ later) ≡ number → refusal_at earlier arrival ≡ Some error → ⊥
+refused_fine : (number end : ℕ) (earlier : List Arrival) (arrival : Arrival) (later : List Arrival) (error : EodError) → 1 ≤ number → number ≤ MAX_EODS → AllAre number (totals (earlier ++ arrival ∷ later)) → eods (earlier ++ arrival ∷ later) ≡ number → refusal_at earlier arrival ≡ Some error → ⊥
 refused_fine number end earlier (At offset value) later error low high all met refused = let no : nothing ≡ Some error = refused in cc
 refused_fine number end earlier (Bad refusal) later error low high all met refused = let no : nothing ≡ Some error = refused in cc
 refused_fine number end earlier (Eof total) later error low high all met refused =

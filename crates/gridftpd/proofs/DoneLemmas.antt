@@ -1,6 +1,7 @@
 -- When the events of arrivals are done.
 use Rattle.std.proofs.Common.{◌≡◌, ℕ, ◌+◌, ◌<◌, ◌≤◌, ◌↔◌, List, [], ◌∷◌, Some, None, refl, sym, ap, ◌∙◌, arith}
 use Rattle.std.specs.Prelude.{Option}
+use Rattle.gft_eod.specs.declared.TheConstants.{MAX_EODS}
 use Rattle.gft_eblock.specs.Words.{Arrival, At, Eof, Eod, Bad, Arrives, totals, eods}
 use Rattle.gft_core.specs.declared.CoreEvent.{CoreEvent}
 use Rattle.gft_core.specs.declared.CoreEvent.TheVariants as event
@@ -16,7 +17,7 @@ use Rattle.gridftpd.proofs.EventLemmas.{arrives_kept, kept_arrives}
 pub record SaysDone (list : List Arrival) (end : ℕ) : Type 0 where
   pub total : ℕ
   pub announced : first_of (totals list) ≡ Some total
-  pub in_bounds : (1 ≤ total) × (total ≤ 1024)
+  pub in_bounds : (1 ≤ total) × (total ≤ MAX_EODS)
   pub no_other : AllAre total (totals list)
   pub met : eods list ≡ total
   pub whole : (x : ℕ) → Arrives list x ↔ (x < end)
