@@ -1,5 +1,7 @@
 -- What one line gives a reply (RFC 959, section 4.2).
-use Rattle.std.specs.Prelude.{ℕ, ◌+◌, ◌-◌, ◌*◌, ◌&&◌, ◌==◌, Bool, true, false, nat_lt, if◌then◌else◌, List, [], ◌∷◌, Option, Some, None, option_and_then}
+use Rattle.std.specs.Prelude.{ℕ, ◌+◌, ◌-◌, ◌*◌, ◌&&◌, ◌==◌, Bool, true, false, nat_lt, if◌then◌else◌}
+use Rattle.std.specs.Prelude.{List, [], ◌∷◌, Option, Some, None, option_and_then}
+use Rattle.gft_base.specs.Words.{dash, digit_zero, space}
 
 -- a line's part in a reply: the code, its text, and whether it ends the reply
 pub record Part : Type 0 where
@@ -10,11 +12,12 @@ pub record Part : Type 0 where
 -- the value of a decimal digit from the first to the last
 abbrev pub digit_of : ℕ → ℕ → ℕ → Option ℕ
 digit_of first last byte =
-    if nat_lt byte (48 + first) then None else (if nat_lt (48 + last) byte then None else Some (byte - 48))
+    if nat_lt byte (digit_zero + first) then None
+    else (if nat_lt (digit_zero + last) byte then None else Some (byte - digit_zero))
 
 -- a space behind the code ends the reply, and a dash goes on with it
 abbrev pub mark_of : ℕ → Option Bool
-mark_of byte = if byte == 32 then Some true else (if byte == 45 then Some false else None)
+mark_of byte = if byte == space then Some true else (if byte == dash then Some false else None)
 
 infixl 10 ◌>>=◌
 abbrev pub ◌>>=◌ : {A B : Type 0} → Option A → (A → Option B) → Option B
@@ -33,7 +36,7 @@ head_of _ = None
 -- a line without one leading space
 abbrev pub without_space : List ℕ → List ℕ
 without_space [] = []
-without_space (byte ∷ bytes) = if byte == 32 then bytes else byte ∷ bytes
+without_space (byte ∷ bytes) = if byte == space then bytes else byte ∷ bytes
 
 -- a line between the first and the last: it holds anything
 abbrev pub inner_part : ℕ → List ℕ → Part

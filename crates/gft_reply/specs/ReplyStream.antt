@@ -1,5 +1,7 @@
--- What a stream's lines tell: its replies, in order, up to a line that can't stand there (RFC 959, section 4.2).
-use Rattle.std.specs.Prelude.{ℕ, ◌+◌, Bool, true, false, nat_lt, if◌then◌else◌, List, [], ◌∷◌, ◌++◌, length, Option, Some, None}
+-- What a stream's lines tell: its replies, in order, up to a line that can't stand there (RFC 959, section
+-- 4.2).
+use Rattle.std.specs.Prelude.{ℕ, ◌+◌, Bool, true, false, nat_lt, if◌then◌else◌}
+use Rattle.std.specs.Prelude.{List, [], ◌∷◌, ◌++◌, length, Option, Some, None}
 use Rattle.gft_text.specs.Words.{Told, Line, Overlong, told}
 use Rattle.gft_reply.specs.declared.reply.Reply.{Reply}
 use Rattle.gft_reply.specs.declared.TheConstants.{LINE_COUNT_LIMIT}
@@ -31,7 +33,8 @@ joined_then false reply next = next reply
 abbrev pub part_then : Reply → Option Part → (Reply → List Heard) → List Heard
 part_then begun None next = Refused ∷ []
 part_then begun (Some part) next =
-    if nat_lt (length begun.lines + 1) LINE_COUNT_LIMIT then joined_then part.ends (joined begun part) next else Refused ∷ []
+    if nat_lt (length begun.lines + 1) LINE_COUNT_LIMIT then joined_then part.ends (joined begun part) next
+    else Refused ∷ []
 
 -- what the lines tell behind these lines of a reply
 abbrev pub heard : List Told → Reply → List Heard

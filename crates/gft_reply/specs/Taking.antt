@@ -1,6 +1,6 @@
 -- What lines do to the reply that has begun.
 use Rattle.std.specs.Prelude.{◌≡◌, ℕ, ◌<◌, List, [], ◌∷◌, ◌++◌, length}
-use Rattle.gft_base.specs.Words.{Lacks}
+use Rattle.gft_base.specs.Words.{Lacks, line_feed}
 use Rattle.gft_text.specs.Words.{told}
 use Rattle.gft_text.specs.declared.TheConstants.{LINE_LIMIT}
 use Rattle.gft_reply.specs.declared.reply.Reply.{Reply}
@@ -26,7 +26,7 @@ pub record StopsOpen (old : Reply) (bytes : List ℕ) (left : ℕ) (new : Reply)
   pub rest : List ℕ
   pub bytes_are : bytes ≡ done ++ rest
   pub left_is : left ≡ length rest
-  pub single : Lacks 10 rest
+  pub single : Lacks line_feed rest
   pub short : length rest < LINE_LIMIT
   pub carried : (later : List ℕ) → heard (told (done ++ later)) old ≡ heard (told later) new
 
@@ -34,9 +34,10 @@ pub record StopsOpen (old : Reply) (bytes : List ℕ) (left : ℕ) (new : Reply)
 pub record StopsEnded (old : Reply) (bytes : List ℕ) (left : ℕ) (new : Reply) : Type 0 where
   pub front : List ℕ
   pub rest : List ℕ
-  pub bytes_are : bytes ≡ front ++ 10 ∷ rest
+  pub bytes_are : bytes ≡ front ++ line_feed ∷ rest
   pub left_is : left ≡ length rest
-  pub carried : (later : List ℕ) → heard (told (front ++ 10 ∷ later)) old ≡ Replied new ∷ heard (told later) nothing
+  pub carried : (later : List ℕ) →
+      heard (told (front ++ line_feed ∷ later)) old ≡ Replied new ∷ heard (told later) nothing
 
 abbrev pub Stops : Reply → List ℕ → Stop → Reply → Type 0
 Stops old bytes stop.Refused new = (later : List ℕ) → heard (told (bytes ++ later)) old ≡ Refused ∷ []
@@ -47,11 +48,12 @@ Stops old bytes (stop.Ended left) new = StopsEnded old bytes left new
 pub record StopsAt (old : Reply) (bytes kept : List ℕ) (new : Reply) : Type 0 where
   pub done : List ℕ
   pub bytes_are : bytes ≡ done ++ kept
-  pub single : Lacks 10 kept
+  pub single : Lacks line_feed kept
   pub short : length kept < LINE_LIMIT
   pub carried : (later : List ℕ) → heard (told (done ++ later)) old ≡ heard (told later) new
 
 abbrev pub TakesPiece : Reply → List ℕ → Stop → Reply → List ℕ → Type 0
-TakesPiece old bytes stop.Refused new kept = (later : List ℕ) → heard (told (bytes ++ later)) old ≡ Refused ∷ []
+TakesPiece old bytes stop.Refused new kept =
+    (later : List ℕ) → heard (told (bytes ++ later)) old ≡ Refused ∷ []
 TakesPiece old bytes (stop.Open left) new kept = StopsAt old bytes kept new
 TakesPiece old bytes (stop.Ended left) new kept = StopsEnded old bytes left new

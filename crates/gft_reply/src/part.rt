@@ -26,7 +26,8 @@ pub(crate) fn without_return(line: &[u8]) -> &[u8]
 /// What the line gives a reply that has these lines.
 pub(crate) fn part_of<'a>(begun: &Reply, line: &'a [u8]) -> Option<Part<'a>>
     ensures { MatchOption result (part_behind begun.now.lines begun.now.code line.now ≡ None)
-        (λ p. part_behind begun.now.lines begun.now.code line.now ≡ Some (record { code = p.code; text = p.text.now; ends = p.ends })) }
+        (λ p. part_behind begun.now.lines begun.now.code line.now
+        ≡ Some (record { code = p.code; text = p.text.now; ends = p.ends })) }
 {
     if begun.lines.count() == 0 {
         read_head(line)

@@ -1,10 +1,10 @@
 ghost use Rattle.std.specs.Prelude.{◌≡◌, ℕ, List, [], ◌∷◌, length, IsErr, IsNone, IfOk, Err};
 ghost use Rattle.gft_reply.specs.ReplyStream.{Refused, replies};
-ghost use Rattle.gft_reply.specs.Replies.{Carries, Fails, HasFailed, to_come};
+ghost use Rattle.gft_reply.specs.Replies.{CarriesReply, RefusesReply, HasRefused, replies_to_come};
 
 use crate::reply::Reply;
 use crate::taking::{Stop, take_piece};
-use std::alloc::{AllocError, Global};
+use std::alloc::Global;
 use std::marker::Model;
 use std::mem;
 use thiserror::Error;
@@ -21,16 +21,20 @@ pub struct Replies {
 
 impl Model for Replies {
     ghost use Rattle.std.specs.Prelude.{◌<◌, length};
-    ghost use Rattle.gft_base.specs.Words.{Lacks};
+    ghost use Rattle.gft_base.specs.Words.{Lacks, line_feed};
     ghost use Rattle.gft_text.specs.declared.TheConstants.{LINE_LIMIT};
     ghost use Rattle.gft_reply.specs.Standing.{Standing};
 
     ghost Value = { Standing };
 
-    ghost view = { λ r.
-        record { code = r.begun.code; lines = r.begun.lines; bytes = r.bytes.items; failed = r.failed } };
+    ghost view = { λ r. record {
+      code = r.begun.code;
+      lines = r.begun.lines;
+      bytes = r.bytes.items;
+      failed = r.failed;
+    } };
 
-    ghost invariant = { λ r. Lacks 10 r.bytes.items × (length r.bytes.items < LINE_LIMIT) };
+    ghost invariant = { λ r. Lacks line_feed r.bytes.items × (length r.bytes.items < LINE_LIMIT) };
 }
 
 /// How many bytes a feed took, and the reply that the last of them ended.
@@ -52,21 +56,11 @@ pub enum ReplyError {
     OutOfMemory,
 }
 
-impl From<AllocError> for ReplyError {
-    ghost use Rattle.gft_reply.specs.declared.replies.ReplyError.TheVariants as errors;
-
-    ghost from_gives = { λ _ e. e ≡ errors.OutOfMemory };
-
-    fn from(_refused: AllocError) -> ReplyError {
-        ReplyError::OutOfMemory
-    }
-}
-
 impl Replies {
     /// A reader before the first byte. It allocates nothing.
     pub fn new(alloc: Global) -> Self
-        ensures to_come { (stream : List ℕ) → to_come result stream ≡ replies stream }
-        ensures not_failed { ¬ HasFailed result }
+        ensures to_come { (stream : List ℕ) → replies_to_come result stream ≡ replies stream }
+        ensures not_failed { ¬ HasRefused result }
     {
         Replies {
             begun: Reply::nothing(alloc),
@@ -78,17 +72,17 @@ impl Replies {
     /// Takes bytes until a reply is whole (RFC 959, section 4.2), or all where none is; hand in what
     /// is left.
     ///
-    /// `BadReply` where a line stands that can't be there, a line has `LINE_LIMIT` bytes, or a reply
+    /// `BadReply` if a line stands that can't be there, a line has `LINE_LIMIT` bytes, or a reply
     /// `LINE_COUNT_LIMIT` lines; from then on each feed answers it. `OutOfMemory` leaves the reader
     /// as it was.
     pub fn feed(&mut self, piece: &[u8]) -> Result<Got, ReplyError>
-        ensures carried { IfOk result (λ got. Carries self.old piece.now got self.new) }
+        ensures carried { IfOk result (λ got. CarriesReply self.old piece.now got self.new) }
         ensures whole { IfOk result (λ got. IsNone got.reply → got.used ≡ length piece.now) }
-        ensures bad { result ≡ Err ReplyError.BadReply → Fails self.old piece.now self.new }
+        ensures bad { result ≡ Err ReplyError.BadReply → RefusesReply self.old piece.now self.new }
 
         // A line that can't stand there, and that comes before a reply, is refused.
-        ensures refused { to_come self.old piece.now ≡ Refused ∷ [] → IsErr result }
-        ensures again { HasFailed self.old →
+        ensures refused { replies_to_come self.old piece.now ≡ Refused ∷ [] → IsErr result }
+        ensures again { HasRefused self.old →
             (result ≡ Err ReplyError.BadReply) × (self.new ≡ self.old) }
 
         ensures memory { result ≡ Err ReplyError.OutOfMemory → self.new ≡ self.old }

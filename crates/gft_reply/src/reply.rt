@@ -6,7 +6,7 @@ use gft_base::OutOfMemory;
 use std::alloc::Global;
 
 /// A reply (RFC 959, section 4.2): its code, and the text of each line.
-#[derive(Debug, Drop)]
+#[derive(Debug, PartialEq, Drop)]
 pub struct Reply {
     /// From 100 to 599.
     pub code: u16,
@@ -26,7 +26,7 @@ impl Reply {
         }
     }
 
-    /// The same reply. `OutOfMemory` when it can't be allocated.
+    /// The same reply. `OutOfMemory` if it can't be allocated.
     pub fn copy(&self) -> Result<Reply, OutOfMemory>
         ensures { IfOk result (λ reply. reply ≡ self.now) }
     {

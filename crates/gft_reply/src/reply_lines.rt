@@ -20,6 +20,20 @@ impl Model for ReplyLines {
     ghost view = { λ l. l.lines.items };
 }
 
+impl PartialEq for ReplyLines {
+    ghost use Rattle.std.specs.Prelude.{nat_eq};
+    ghost use Rattle.std.specs.Cmp.{partial_equiv_from_equiv};
+    ghost use Rattle.std.specs.Cmp.Lexicographic.{lists_per, nat_list_eq_equiv, pointwise};
+
+    ghost eq = { pointwise (pointwise nat_eq) };
+
+    ghost laws = { lists_per (partial_equiv_from_equiv nat_list_eq_equiv) };
+
+    fn eq(&self, other: &ReplyLines) -> bool {
+        self.lines == other.lines
+    }
+}
+
 impl ReplyLines {
     /// No lines. It allocates nothing.
     pub fn new(alloc: Global) -> Self
@@ -56,7 +70,7 @@ impl ReplyLines {
         Some(line.bytes())
     }
 
-    /// The same lines. `OutOfMemory` when they can't be allocated.
+    /// The same lines. `OutOfMemory` if they can't be allocated.
     pub fn copy(&self) -> Result<ReplyLines, OutOfMemory>
         ensures { IfOk result (λ lines. lines ≡ self.now) }
     {
@@ -67,7 +81,8 @@ impl ReplyLines {
         Ok(lines)
     }
 
-    pub(crate) fn as_slice(&self) -> &[Words]
+    /// All lines, in order.
+    pub fn as_slice(&self) -> &[Words]
         ensures { result.now ≡ self.now }
     {
         &self.lines

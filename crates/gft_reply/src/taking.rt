@@ -1,11 +1,11 @@
 ghost use Rattle.std.specs.Prelude.{◌≡◌, ◌++◌, List, length, take, IfOk, OnOk, OnErr};
-ghost use Rattle.gft_base.specs.Words.{Lacks};
+ghost use Rattle.gft_base.specs.Words.{Lacks, line_feed};
 ghost use Rattle.gft_reply.specs.declared.reply.Reply.{Reply};
 ghost use Rattle.gft_reply.specs.ReplyStream.{Heard, part_behind, part_then};
 ghost use Rattle.gft_reply.specs.Taking.{Grows, Stops, TakesPiece, heard_behind};
 
-use crate::part::{part_of, without_return};
 use crate::LINE_COUNT_LIMIT;
+use crate::part::{part_of, without_return};
 use crate::reply::Reply;
 use gft_base::{OutOfMemory, split_first};
 use gft_text::LINE_LIMIT;
@@ -42,7 +42,7 @@ pub(crate) fn take_piece(
     held: &mut Vec<u8>,
     piece: &[u8],
 ) -> Result<Stop, OutOfMemory>
-    requires { Lacks 10 held.old.items }
+    requires { Lacks line_feed held.old.items }
     ensures takes { IfOk result (λ stop.
         TakesPiece begun.old (held.old.items ++ piece.now) stop begun.new held.new.items) }
     ensures grows { Grows begun.old begun.new }
@@ -52,10 +52,10 @@ pub(crate) fn take_piece(
         return take_rest(begun, held, piece);
     }
     let (front, behind) = split_first(piece, b'\n');
-    held.extend_from_slice(front)?;
-    if held.len() >= LINE_LIMIT {
+    if held.len().saturating_add(front.len()) >= LINE_LIMIT {
         return Ok(Stop::Refused);
     }
+    held.extend_from_slice(front)?;
     let Some(behind) = behind else {
         return Ok(Stop::Open { left: held.len() });
     };
@@ -120,7 +120,8 @@ fn take_lines(begun: &mut Reply, bytes: &[u8]) -> Result<Stop, OutOfMemory>
 /// Takes one line. `OutOfMemory` leaves the reply as it was.
 fn take_line(begun: &mut Reply, line: &[u8]) -> Result<Taken, OutOfMemory>
     ensures heard { IfOk result (λ taken. (next : Reply → List Heard) →
-        part_then begun.old (part_behind begun.old.lines begun.old.code line.now) next ≡ heard_behind taken begun.new next) }
+        part_then begun.old (part_behind begun.old.lines begun.old.code line.now) next
+        ≡ heard_behind taken begun.new next) }
     ensures grows { Grows begun.old begun.new }
     ensures err { OnErr result (begun.new ≡ begun.old) }
 {

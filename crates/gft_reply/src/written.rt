@@ -1,8 +1,10 @@
-ghost use Rattle.std.specs.Prelude.{◌≡◌, ◌≤◌, ◌<◌, ◌+◌, ◌++◌, ◌∷◌, ◌↔◌, [], ℕ, List, length, true, IsTrue, IfOk, OnOk};
+ghost use Rattle.std.specs.Prelude.{◌≡◌, ◌≤◌, ◌<◌, ◌+◌, ◌++◌, ◌∷◌, ◌↔◌, [], ℕ, List, length};
+ghost use Rattle.std.specs.Prelude.{IsTrue, IfOk, OnOk};
 ghost use Rattle.std.specs.List.{AllByRecursion};
 ghost use Rattle.gft_base.specs.Words.{Lacks};
 ghost use Rattle.gft_reply.specs.ReplyStream.{Replied, replies};
-ghost use Rattle.gft_reply.specs.Written.{Fits, IsWritable, code_text, front_of, reply_text, spelled, written_line, written_lines};
+ghost use Rattle.gft_reply.specs.Written.{FitsReply, IsReplyLine, code_text, front_of, place_before};
+ghost use Rattle.gft_reply.specs.Written.{reply_text, spelled, written_line, written_lines};
 
 use crate::LINE_COUNT_LIMIT;
 use crate::reply::Reply;
@@ -10,11 +12,19 @@ use gft_base::{OutOfMemory, split_first};
 use gft_text::{LINE_LIMIT, Words};
 use std::alloc::Global;
 
+/// Where a line stands among those of its reply. A reply's only line is its last.
+#[derive(Clone, Copy)]
+pub(crate) enum Place {
+    First,
+    Inner,
+    Last,
+}
+
 impl Reply {
     /// Whether the reply has a text: a code from 100 to 599, and 1 to 1,023 lines without an LF, each
     /// of which, with its code or space and its CR, is shorter than `LINE_LIMIT`.
     pub fn fits(&self) -> bool
-        ensures { IsTrue result ↔ Fits self.now }
+        ensures { IsTrue result ↔ FitsReply self.now }
     {
         let count = self.lines.count();
         if self.code < 100 || self.code > 599 {
@@ -27,9 +37,9 @@ impl Reply {
     }
 
     /// The text of a reply that fits (RFC 959, section 4.2). Each inner line begins with a space.
-    /// `OutOfMemory` when it can't be allocated.
+    /// `OutOfMemory` if it can't be allocated.
     pub fn write(&self, alloc: Global) -> Result<Vec<u8>, OutOfMemory>
-        requires { Fits self.now }
+        requires { FitsReply self.now }
         ensures text { IfOk result (λ text. text.items ≡ reply_text self.now) }
         ensures read_again { IfOk result (λ text. (later : List ℕ) →
             replies (text.items ++ later) ≡ Replied self.now ∷ replies later) }
@@ -40,71 +50,75 @@ impl Reply {
     }
 }
 
+/// The place of a line that stands here and before these: the last where there is none.
+fn place_before(at: Place, behind: &[Words]) -> Place
+    ensures { result ≡ place_before at behind.now }
+{
+    if behind.is_empty() { Place::Last } else { at }
+}
+
 fn lines_fit(code: u16, lines: &[Words]) -> bool
-    ensures { IsTrue result ↔ AllByRecursion IsWritable (written_lines true code lines.now) }
+    ensures { IsTrue result ↔ AllByRecursion IsReplyLine (written_lines Place.First code lines.now) }
 {
     let mut rest = lines;
-    let mut first = true;
+    let mut at = Place::First;
     while let [line, behind @ ..] = rest {
-        if !line_fits(code, first, line.bytes(), behind.is_empty()) {
+        if !line_fits(code, place_before(at, behind), line.bytes()) {
             return false;
         }
-        first = false;
+        at = Place::Inner;
         rest = behind;
     }
     true
 }
 
-fn line_fits(code: u16, first: bool, line: &[u8], last: bool) -> bool
-    ensures { IsTrue result ↔ IsWritable (written_line first last code line.now) }
+fn line_fits(code: u16, at: Place, line: &[u8]) -> bool
+    ensures { IsTrue result ↔ IsReplyLine (written_line at code line.now) }
 {
     let (_, behind) = split_first(line, b'\n');
     if behind.is_some() {
         return false;
     }
-    line.len() < LINE_LIMIT - 1 - front_len(first, last)
+    line.len() < LINE_LIMIT - 1 - front_len(at)
 }
 
-fn front_len(first: bool, last: bool) -> usize
-    ensures len { (code : ℕ) → result ≡ length (front_of first last code) }
+fn front_len(at: Place) -> usize
+    ensures len { (code : ℕ) → result ≡ length (front_of at code) }
     ensures bound { result ≤ 4 }
 {
-    if last {
-        4
-    } else if first {
-        4
-    } else {
-        1
+    match at {
+        Place::First => 4,
+        Place::Inner => 1,
+        Place::Last => 4,
     }
 }
 
 fn write_lines(text: &mut Vec<u8>, code: u16, lines: &[Words]) -> Result<(), OutOfMemory>
     requires { code ≤ 599 }
-    ensures { OnOk result (text.new.items ≡ text.old.items ++ spelled (written_lines true code lines.now)) }
+    ensures { OnOk result (text.new.items
+        ≡ text.old.items ++ spelled (written_lines Place.First code lines.now)) }
 {
     let mut rest = lines;
-    let mut first = true;
+    let mut at = Place::First;
     while let [line, behind @ ..] = rest {
-        write_front(text, code, first, behind.is_empty())?;
+        write_front(text, code, place_before(at, behind))?;
         text.extend_from_slice(line.bytes())?;
         text.extend_from_slice(b"\r\n")?;
-        first = false;
+        at = Place::Inner;
         rest = behind;
     }
     Ok(())
 }
 
 /// Writes what stands before a line's text.
-fn write_front(text: &mut Vec<u8>, code: u16, first: bool, last: bool) -> Result<(), OutOfMemory>
+fn write_front(text: &mut Vec<u8>, code: u16, at: Place) -> Result<(), OutOfMemory>
     requires { code ≤ 599 }
-    ensures { OnOk result (text.new.items ≡ text.old.items ++ front_of first last code) }
+    ensures { OnOk result (text.new.items ≡ text.old.items ++ front_of at code) }
 {
-    if last {
-        text.extend_from_slice(&head(code, b' '))?;
-    } else if first {
-        text.extend_from_slice(&head(code, b'-'))?;
-    } else {
-        text.push(b' ')?;
+    match at {
+        Place::First => text.extend_from_slice(&head(code, b'-'))?,
+        Place::Inner => text.push(b' ')?,
+        Place::Last => text.extend_from_slice(&head(code, b' '))?,
     }
     Ok(())
 }

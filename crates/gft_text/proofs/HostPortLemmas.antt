@@ -3,7 +3,7 @@ use Rattle.std.proofs.Common.{◌≡◌, ℕ, ◌+◌, ◌/◌, ◌%◌, ◌<◌
 use Rattle.std.specs.List.{AllZip, AllByRecursion, join_with_byte}
 use Rattle.std.specs.Fmt.{decimal}
 use Rattle.gft_base.proofs.Lemmas.{parts-decimals, IsNumber-one, IsNumber-decimal, AllZip-length, AllZip-one}
-use Rattle.gft_base.specs.Words.{parts_at}
+use Rattle.gft_base.specs.Words.{comma, parts_at}
 use Rattle.gft_text.specs.HostPort.{IsByte, IsHostPort, FitsHostPort, host_port_text}
 use Rattle.gft_text.specs.declared.host_port.HostPort.{HostPort}
 
@@ -21,9 +21,9 @@ each_byte [] fit = tt
 each_byte (n ∷ ns) fit = ((omega (arith, fit.0), record { number = IsNumber-decimal n (omega (arith, fit.0)); fits = fit.0 }), each_byte ns fit.1)
 
 -- texts of bytes
-bytes-decimals : (ns : List ℕ) → 0 < length ns → AllByRecursion (λ n. n < 256) ns → AllZip IsByte (parts_at 44 (join_with_byte 44 (map decimal ns))) ns
+bytes-decimals : (ns : List ℕ) → 0 < length ns → AllByRecursion (λ n. n < 256) ns → AllZip IsByte (parts_at comma (join_with_byte comma (map decimal ns))) ns
 bytes-decimals [] some fit = absurd (omega (arith, some))
-bytes-decimals (n ∷ ns) some fit = parts-decimals IsByte 44 (lit< tt) n ns (each_byte (n ∷ ns) fit)
+bytes-decimals (n ∷ ns) some fit = parts-decimals IsByte comma (lit< tt) n ns (each_byte (n ∷ ns) fit)
 
 -- what is written is read again
 pub IsHostPort-text : (at : HostPort) → FitsHostPort at → IsHostPort (host_port_text at) at
@@ -50,7 +50,7 @@ same_fields a b host port =
 -- no text has two values
 pub IsHostPort-one : (text : List ℕ) (a b : HostPort) → IsHostPort text a → IsHostPort text b → a ≡ b
 IsHostPort-one text a b is_a is_b =
-    let same = AllZip-one IsByte (λ part x y of_x of_y. IsNumber-one part x y of_x.number of_y.number) (parts_at 44 text) _ _ is_a.numbers is_b.numbers in
+    let same = AllZip-one IsByte (λ part x y of_x of_y. IsNumber-one part x y of_x.number of_y.number) (parts_at comma text) _ _ is_a.numbers is_b.numbers in
     let ends = same_ends a.host b.host _ _ _ _ (omega (arith, is_a.host, is_b.host)) same in
     same_fields a b ends.0 (omega (arith, ends.1, ends.2))
 

@@ -1,7 +1,8 @@
--- What a stream tells, line by line (RFC 959, section 5.3: a line ends with CR and LF; an LF alone ends one too).
+-- What a stream tells, line by line (RFC 959, section 5.3: a line ends with CR and LF; an LF alone ends one
+-- too).
 use Rattle.std.specs.Prelude.{ℕ, nat_lt, if◌then◌else◌, List, [], ◌∷◌, length}
 use Rattle.std.specs.Str.Lines.{strip_carriage_return}
-use Rattle.gft_base.specs.Words.{parts_at}
+use Rattle.gft_base.specs.Words.{line_feed, parts_at}
 use Rattle.gft_text.specs.declared.TheConstants.{LINE_LIMIT}
 
 pub data Told : Type 0 where
@@ -23,4 +24,4 @@ told_of_parts (part ∷ parts) =
 
 -- the lines of a stream, in order
 unfoldable pub told : List ℕ → List Told
-told stream = told_of_parts (parts_at 10 stream)
+told stream = told_of_parts (parts_at line_feed stream)

@@ -1,6 +1,6 @@
 ghost use Rattle.std.specs.Prelude.{◌≡◌, List, ℕ, MatchOption, length, IfOk, OnErr};
 ghost use Rattle.std.specs.List.{AllZip};
-ghost use Rattle.gft_base.specs.Words.{parts_at};
+ghost use Rattle.gft_base.specs.Words.{comma, parts_at};
 ghost use Rattle.gft_text.specs.HostPort.{IsHostPort, IsByte, host_port_text};
 ghost use Rattle.gft_text.specs.declared.host_port.HostPort.{HostPort};
 
@@ -16,7 +16,7 @@ pub struct HostPort {
 }
 
 /// Reads `h1,h2,h3,h4,p1,p2` (RFC 959, section 4.1.2, PORT): six numbers up to 255, of which the
-/// last two are the port's high and low byte. `BadNumber` where the text is none.
+/// last two are the port's high and low byte. `BadNumber` if the text is none.
 pub fn read_host_port(text: &[u8]) -> Result<HostPort, BadNumber>
     ensures address { IfOk result (IsHostPort text.now) }
     ensures none { OnErr result ((at : HostPort) → ¬ IsHostPort text.now at) }
@@ -31,7 +31,7 @@ pub fn read_host_port(text: &[u8]) -> Result<HostPort, BadNumber>
     })
 }
 
-/// The text of an address, without leading zeros. `OutOfMemory` when it can't be allocated.
+/// The text of an address, without leading zeros. `OutOfMemory` if it can't be allocated.
 pub fn write_host_port(alloc: Global, at: &HostPort) -> Result<Vec<u8>, OutOfMemory>
     ensures text { IfOk result (λ text. text.items ≡ host_port_text at.now) }
     ensures read_again { IfOk result (λ text. IsHostPort text.items at.now) }
@@ -45,8 +45,8 @@ pub fn write_host_port(alloc: Global, at: &HostPort) -> Result<Vec<u8>, OutOfMem
 /// Six numbers up to 255, separated by commas.
 fn read_six(text: &[u8]) -> Option<[u8; 6]>
     ensures { MatchOption result
-        ((ns : List ℕ) → length ns ≡ 6 → ¬ AllZip IsByte (parts_at 44 text.now) ns)
-        (AllZip IsByte (parts_at 44 text.now)) }
+        ((ns : List ℕ) → length ns ≡ 6 → ¬ AllZip IsByte (parts_at comma text.now) ns)
+        (AllZip IsByte (parts_at comma text.now)) }
 {
     let mut numbers = [0; 6];
     let mut rest = Some(text);

@@ -2,7 +2,7 @@
 
 ghost use Rattle.std.specs.Prelude.{◌≡◌, ℕ, ◌<◌, ◌≤◌, ◌^◌, List, [], ◌∷◌, ◌++◌, length, decimal, None};
 ghost use Rattle.std.specs.Str.Lines.{strip_carriage_return};
-ghost use Rattle.gft_base.specs.Words.{Lacks, IsNumber};
+ghost use Rattle.gft_base.specs.Words.{Lacks, IsNumber, line_feed};
 ghost use Rattle.gft_text.specs.Name.{IsName, WritesName, fault_of};
 ghost use Rattle.gft_text.specs.HostPort.{IsHostPort, FitsHostPort, host_port_text};
 ghost use Rattle.gft_text.specs.LineStream.{Line, Overlong, told};
@@ -11,18 +11,18 @@ ghost use Rattle.gft_text.specs.declared.TheConstants.{LINE_LIMIT};
 
 /// Bytes and an LF are a line, and then comes what the rest tells.
 pub fn one_line()
-    ensures { (line rest : List ℕ) → Lacks 10 line → length line < LINE_LIMIT →
-        told (line ++ 10 ∷ rest) ≡ Line (strip_carriage_return line) ∷ told rest }
+    ensures { (line rest : List ℕ) → Lacks line_feed line → length line < LINE_LIMIT →
+        told (line ++ line_feed ∷ rest) ≡ Line (strip_carriage_return line) ∷ told rest }
 {}
 
 /// Too few bytes without an LF tell nothing.
 pub fn no_line_yet()
-    ensures { (bytes : List ℕ) → Lacks 10 bytes → length bytes < LINE_LIMIT → told bytes ≡ [] }
+    ensures { (bytes : List ℕ) → Lacks line_feed bytes → length bytes < LINE_LIMIT → told bytes ≡ [] }
 {}
 
 /// So many bytes without an LF are too long a line, whatever follows.
 pub fn an_overlong_line()
-    ensures { (bytes rest : List ℕ) → Lacks 10 bytes → LINE_LIMIT ≤ length bytes →
+    ensures { (bytes rest : List ℕ) → Lacks line_feed bytes → LINE_LIMIT ≤ length bytes →
         told (bytes ++ rest) ≡ Overlong ∷ [] }
 {}
 

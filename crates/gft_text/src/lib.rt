@@ -30,5 +30,10 @@ pub use words::Words;
 /// The most bytes that are taken since a line's end: as many without an LF are too long a line.
 pub const LINE_LIMIT: usize = 65536;
 
-// The definitions of all crates cite the name: its number is pinned here.
+/// The most bytes of a file's name.
+pub const MAX_NAME_LEN: usize = 200;
+
+// The definitions of all crates cite the names: their numbers are pinned here.
 const _: () = prove!(LINE_LIMIT == 65_536);
+
+const _: () = prove!(MAX_NAME_LEN == 200);

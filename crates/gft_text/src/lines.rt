@@ -1,7 +1,9 @@
-ghost use Rattle.std.specs.Prelude.{◌≡◌, ℕ, ◌<◌, ◌≤◌, ◌+◌, [], ◌∷◌, ◌++◌, List, length, take, false, IsTrue, IsErr, vec_len, IfOk, OnOk, OnErr, Err};
-ghost use Rattle.gft_base.specs.Words.{Lacks};
+ghost use Rattle.std.specs.Prelude.{◌≡◌, ℕ, ◌<◌, ◌≤◌, List, [], ◌++◌, length, take, vec_len};
+ghost use Rattle.std.specs.Prelude.{IsErr, IfOk, OnOk, OnErr, Err};
+ghost use Rattle.gft_base.specs.Words.{Lacks, line_feed};
 ghost use Rattle.gft_text.specs.LineStream.{told};
-ghost use Rattle.gft_text.specs.Lines.{Carries, Feeds, IsFront, IsOverlong, Overruns, begun, shown, to_come};
+ghost use Rattle.gft_text.specs.Lines.{CarriesLine, Feeds, IsFront, IsOverlong, Overruns};
+ghost use Rattle.gft_text.specs.Lines.{line_begun, lines_to_come, shown};
 
 use crate::LINE_LIMIT;
 use gft_base::find_byte;
@@ -22,7 +24,7 @@ pub struct Lines {
 
 impl Model for Lines {
     ghost use Rattle.std.specs.Prelude.{◌≡◌, ◌<◌, ◌≤◌, true, length};
-    ghost use Rattle.gft_base.specs.Words.{Lacks};
+    ghost use Rattle.gft_base.specs.Words.{Lacks, line_feed};
     ghost use Rattle.gft_text.specs.Lines.{Held};
     ghost use Rattle.gft_text.specs.declared.TheConstants.{LINE_LIMIT};
 
@@ -30,7 +32,7 @@ impl Model for Lines {
 
     ghost view = { λ l. record { bytes = l.bytes.items; whole = l.whole } };
 
-    ghost invariant = { λ l. Lacks 10 l.bytes.items × (length l.bytes.items ≤ LINE_LIMIT)
+    ghost invariant = { λ l. Lacks line_feed l.bytes.items × (length l.bytes.items ≤ LINE_LIMIT)
         × (l.whole ≡ true → length l.bytes.items < LINE_LIMIT) };
 }
 
@@ -66,7 +68,7 @@ impl Lines {
     /// A reader before the first byte. It allocates nothing.
     pub fn new(alloc: Global) -> Self
         ensures nothing { shown result ≡ [] }
-        ensures to_come { (stream : List ℕ) → to_come result stream ≡ told stream }
+        ensures to_come { (stream : List ℕ) → lines_to_come result stream ≡ told stream }
     {
         Lines {
             bytes: Vec::new(alloc),
@@ -77,17 +79,17 @@ impl Lines {
     /// Takes the bytes up to the next LF and that LF, or all where there is none. The feed behind a
     /// whole line begins a new one; hand in what is left.
     ///
-    /// `TooLong` where `LINE_LIMIT` bytes were taken since the last line's end and none is an LF; from
+    /// `TooLong` if `LINE_LIMIT` bytes were taken since the last line's end and none is an LF; from
     /// then on each feed answers it. `OutOfMemory` leaves the reader as it was.
     pub fn feed(&mut self, piece: &[u8]) -> Result<Fed, LineError>
         ensures fed { IfOk result (λ fed. Feeds self.old piece.now fed self.new) }
-        ensures carried { IfOk result (λ fed. Carries self.old piece.now fed self.new) }
+        ensures carried { IfOk result (λ fed. CarriesLine self.old piece.now fed self.new) }
         ensures short { OnOk result (length self.new.bytes < LINE_LIMIT) }
 
         // A line that is too long is refused, and no other.
         ensures too_long { result ≡ Err LineError.TooLong → Overruns self.old piece.now self.new }
-        ensures refused { LINE_LIMIT ≤ length (begun self.old ++ piece.now) →
-            Lacks 10 (take LINE_LIMIT (begun self.old ++ piece.now)) → IsErr result }
+        ensures refused { LINE_LIMIT ≤ length (line_begun self.old ++ piece.now) →
+            Lacks line_feed (take LINE_LIMIT (line_begun self.old ++ piece.now)) → IsErr result }
         ensures again { IsOverlong self.old →
             (result ≡ Err LineError.TooLong) × (self.new ≡ self.old) }
 
@@ -112,7 +114,7 @@ impl Lines {
     /// The bytes taken since the last line's end, without the LF and without a CR just before it.
     pub fn line(&self) -> &[u8]
         ensures shown { result.now ≡ shown self.now }
-        ensures single { Lacks 10 result.now }
+        ensures single { Lacks line_feed result.now }
         ensures bound { length result.now ≤ LINE_LIMIT }
     {
         match (self.whole, self.bytes.as_slice()) {
@@ -124,8 +126,8 @@ impl Lines {
 
 /// How many of the bytes the next ones go on from.
 fn begun_len(bytes: &[u8], whole: bool) -> usize
-    ensures len { result ≡ length (begun (record { bytes = bytes.now; whole = whole })) }
-    ensures kept { take result bytes.now ≡ begun (record { bytes = bytes.now; whole = whole }) }
+    ensures len { result ≡ length (line_begun (record { bytes = bytes.now; whole = whole })) }
+    ensures kept { take result bytes.now ≡ line_begun (record { bytes = bytes.now; whole = whole }) }
     ensures within { result ≤ length bytes.now }
 {
     if whole { 0 } else { bytes.len() }

@@ -1,19 +1,18 @@
 ghost use Rattle.std.specs.Prelude.{◌≡◌, ◌↔◌, IsTrue, IfOk, IfErr};
-ghost use Rattle.gft_text.specs.Name.{IsName, Refuses, WritesName, bad_byte, fault_of, is_name_byte, without_slash};
+ghost use Rattle.gft_text.specs.Name.{IsName, RefusesName, WritesName};
+ghost use Rattle.gft_text.specs.Name.{bad_byte, fault_of, is_name_byte, without_slash};
 
+use crate::MAX_NAME_LEN;
 use gft_base::OutOfMemory;
 use std::alloc::{AllocError, Global};
 use std::marker::Model;
 use thiserror::Error;
 
-/// The most bytes of a name.
-const LONGEST_NAME: usize = 200;
-
 /// The ending of the server's own files.
 const OWN_ENDING: &[u8] = b".gfr";
 
-/// A file's name: 1 to 200 bytes of letters, digits, `.`, `_` and `-`. It doesn't begin with `.`
-/// and doesn't end in `.gfr`. Contracts see its bytes.
+/// A file's name: 1 to `MAX_NAME_LEN` bytes of letters, digits, `.`, `_` and `-`. It doesn't begin
+/// with `.` and doesn't end in `.gfr`. Contracts see its bytes.
 #[derive(Debug, Drop)]
 pub struct Name {
     bytes: Vec<u8>,
@@ -28,6 +27,20 @@ impl Model for Name {
     ghost view = { λ n. n.bytes.items };
 
     ghost invariant = { λ n. IsName n.bytes.items };
+}
+
+impl PartialEq for Name {
+    ghost use Rattle.std.specs.Prelude.{nat_eq};
+    ghost use Rattle.std.specs.Cmp.{partial_equiv_from_equiv};
+    ghost use Rattle.std.specs.Cmp.Lexicographic.{nat_list_eq_equiv, pointwise};
+
+    ghost eq = { pointwise nat_eq };
+
+    ghost laws = { partial_equiv_from_equiv nat_list_eq_equiv };
+
+    fn eq(&self, other: &Name) -> bool {
+        self.bytes == other.bytes
+    }
 }
 
 /// Why a text is no name.
@@ -60,7 +73,7 @@ impl Name {
         &self.bytes
     }
 
-    /// The same name. `OutOfMemory` when it can't be allocated.
+    /// The same name. `OutOfMemory` if it can't be allocated.
     pub fn copy(&self) -> Result<Name, OutOfMemory>
         ensures { IfOk result (λ copy. copy ≡ self.now) }
     {
@@ -78,12 +91,13 @@ pub fn is_name(text: &[u8]) -> bool
 
 /// Reads a name; one leading `/` is dropped.
 ///
-/// `BadName` where the rest is no name, with a place in it, by the first of these that it breaks:
-/// the first byte that no name has; 0 for an empty name or a leading `.`; 200 for a longer one; the
-/// place of an ending `.gfr`. `OutOfMemory`, which a name alone can give, when it can't be copied.
+/// `BadName` if the rest is no name, with a place in it, by the first of these that it breaks: the
+/// first byte that no name has; 0 for an empty name or a leading `.`; `MAX_NAME_LEN` for a longer
+/// one; the place of an ending `.gfr`. `OutOfMemory`, which a name alone can give, if it can't be
+/// copied.
 pub fn read_name(alloc: Global, text: &[u8]) -> Result<Name, NameError>
     ensures name { IfOk result (WritesName text.now) }
-    ensures refused { IfErr result (Refuses (without_slash text.now)) }
+    ensures refused { IfErr result (RefusesName (without_slash text.now)) }
 {
     let name = without_slash(text);
     if let Some(at) = fault_in(name) {
@@ -114,8 +128,8 @@ fn fault_in(name: &[u8]) -> Option<usize>
     if name.is_empty() || name[0] == b'.' {
         return Some(0);
     }
-    if name.len() > LONGEST_NAME {
-        return Some(LONGEST_NAME);
+    if name.len() > MAX_NAME_LEN {
+        return Some(MAX_NAME_LEN);
     }
     if name.ends_with(OWN_ENDING) {
         return Some(name.len() - OWN_ENDING.len());

@@ -10,7 +10,7 @@ use thiserror::Error;
 pub struct BadNumber;
 
 /// Reads a number: 1 to 20 decimal digits, of a value up to 2^64 - 1. Leading zeros are taken.
-/// `BadNumber` where the text is none.
+/// `BadNumber` if the text is none.
 pub fn read_number(text: &[u8]) -> Result<u64, BadNumber>
     ensures number { IfOk result (IsNumber text.now) }
     ensures none { OnErr result ((n : ℕ) → ¬ IsNumber text.now n) }

@@ -19,7 +19,7 @@ pub struct Table {
 }
 
 impl Table {
-    /// The code of the one entry with this text, in any case of its letters. `None` where no entry
+    /// The code of the one entry with this text, in any case of its letters. `None` if no entry
     /// has it.
     pub fn find(&self, text: &[u8]) -> Option<u16>
         ensures found { IfSome result (λ code. (e : Entry)

@@ -18,6 +18,20 @@ impl Model for Words {
     ghost view = { λ w. w.bytes.items };
 }
 
+impl PartialEq for Words {
+    ghost use Rattle.std.specs.Prelude.{nat_eq};
+    ghost use Rattle.std.specs.Cmp.{partial_equiv_from_equiv};
+    ghost use Rattle.std.specs.Cmp.Lexicographic.{nat_list_eq_equiv, pointwise};
+
+    ghost eq = { pointwise nat_eq };
+
+    ghost laws = { partial_equiv_from_equiv nat_list_eq_equiv };
+
+    fn eq(&self, other: &Words) -> bool {
+        self.bytes == other.bytes
+    }
+}
+
 impl Words {
     /// No bytes. It allocates nothing.
     pub fn new(alloc: Global) -> Self
@@ -28,7 +42,7 @@ impl Words {
         }
     }
 
-    /// A copy of these bytes. `OutOfMemory` when it can't be allocated.
+    /// A copy of these bytes. `OutOfMemory` if it can't be allocated.
     pub fn from_bytes(alloc: Global, bytes: &[u8]) -> Result<Words, OutOfMemory>
         ensures { IfOk result (λ words. words ≡ bytes.now) }
     {

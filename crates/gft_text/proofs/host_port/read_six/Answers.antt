@@ -1,6 +1,7 @@
 use Rattle.std.proofs.Common.{[], ◌∷◌, ◌++◌, eqb, arith, append_assoc}
 use Rattle.std.proofs.lemmas.List.{length-take-le, take_more_set}
 use Rattle.std.proofs.lemmas.List.Splits.{length-slice_split}
+use Rattle.gft_base.specs.Words.{comma}
 use Rattle.gft_text.specs.HostPort.{IsByte}
 use Rattle.gft_text.proofs.HostPortLemmas.{parts_count}
 use Rattle.gft_base.proofs.Lemmas.{AllZip-middle, AllZip-push}
@@ -29,4 +30,4 @@ pub returns-in-Some : goal.returns-in-Some
 returns-in-Some c = λ ns six all.
     let kept = c.loop-number.invariant in
     let same = rw c.in-Some.is at kept.1 in
-    omega (arith, parts_count _ _ _ _ ns same kept.2 all, length-take-le c.loop-number.number-index c.loop-number.number-items (omega arith), length-slice_split (λ b. eqb b 44) c.in-Some.field-0.now)
+    omega (arith, parts_count _ _ _ _ ns same kept.2 all, length-take-le c.loop-number.number-index c.loop-number.number-items (omega arith), length-slice_split (λ b. eqb b comma) c.in-Some.field-0.now)

@@ -1,6 +1,6 @@
 use Rattle.std.proofs.Common.{ℕ, List, [], ap, ◌∙◌, sym, append-nil, arith}
 use Rattle.std.proofs.Math.Seq.{take-length}
-use Rattle.gft_reply.specs.Replies.{to_come}
+use Rattle.gft_reply.specs.Replies.{replies_to_come}
 use Rattle.gft_reply.proofs.FeedLemmas.{ended-carries, ended-within, is_nothing, open-carries}
 use Rattle.gft_reply.proofs.replies.Replies.feed.Goals as goal
 
@@ -21,7 +21,7 @@ pub returns-in-Ok-Open-clause-refused : goal.returns-in-Ok-Open-clause-refused
 returns-in-Ok-Open-clause-refused c = λ came.
     let carried = returns-in-Ok-Open-clause-carried c in
     let piece = c.args.piece.now in
-    let none = ap (λ (x : List ℕ). to_come c.args.self.now x) (sym (append-nil _ ∙ take-length piece)) ∙ carried.all [] ∙ carried.settled in
+    let none = ap (λ (x : List ℕ). replies_to_come c.args.self.now x) (sym (append-nil _ ∙ take-length piece)) ∙ carried.all [] ∙ carried.settled in
     cc (none, came)
 
 pub returns-in-Ok-Ended-clause-carried : goal.returns-in-Ok-Ended-clause-carried
