@@ -1,6 +1,7 @@
 -- How an intake goes on along its stream.
 use Rattle.std.proofs.Common.{◌≡◌, ℕ, ◌+◌, ◌-◌, ◌<◌, ◌≤◌, ◌⊎◌, ◌↔◌, List, [], ◌∷◌, ◌++◌, length, length-append, take, Some, None, append_assoc, refl, sym, ap, ◌∙◌, subst, arith, inl, inr, Bor}
-use Rattle.std.specs.Prelude.{slice_index}
+use Rattle.std.specs.Prelude.{slice_index, Option}
+use Rattle.std.specs.Io.KnownBytes.{Consumes}
 use Rattle.std.proofs.lemmas.List.{take_all, length-take-le, take-append-le}
 use Rattle.std.proofs.Math.Seq.{take-append-add}
 use Rattle.std.proofs.lemmas.Bool.{cases_lt}
@@ -22,6 +23,8 @@ use Rattle.gridftpd.specs.declared.intake.Intake.{Intake}
 use Rattle.gridftpd.specs.Follows.{Counts, Follows, HasKeptIn, HasNoBad}
 use Rattle.gridftpd.proofs.ArrivalLemmas.{Arrives-append, eods-append, Arrives-data_at, totals-data_at, eods-data_at}
 use Rattle.gridftpd.proofs.EventLemmas.{kept-first, kept-later, kept-data_at}
+use Rattle.gridftpd.proofs.EndLemmas.{Consumes-append}
+use Rattle.gridftpd.specs.Drain.{IsTaken}
 use Rattle.gridftpd.specs.Events.{events_of}
 
 -- no more than was wanted has no EOD or bad header before its last byte
@@ -37,6 +40,16 @@ in_time_more state start stream piece intake follows fits n lt =
           let short : length (take k piece) ≡ k = length-take-le k piece (omega arith) in
           rw (cut, follows.carried (take k piece)) (IsUnfinished-append follows.told _ (follows.unfinished refl) (to_come-early intake.channel (take k piece) (omega arith)))
     ]
+
+-- what a read gave was taken too, where no more was asked for than the channel wants
+pub taken_more : {D : Type 0} (state : D → DriveState) (start : DriveState) (stream : List ℕ) (intake : Intake D) (first before after : Option (List ℕ)) (buf : List ℕ) (n : ℕ) → Follows state start 0 stream intake → Consumes first before stream
+    → Consumes before after (take n buf) → n ≤ length buf → n ≤ wanted intake.channel → IsTaken first after (stream ++ take n buf)
+taken_more state start stream intake first before after buf n follows earlier now some few =
+    let len : length (take n buf) ≡ n = length-take-le n buf some in
+    record {
+      consumed = Consumes-append first before after stream (take n buf) earlier now;
+      in_time = in_time_more state start stream (take n buf) intake follows (omega arith);
+    }
 
 HasNoBad-append : (a b : List Arrival) → HasNoBad a → HasNoBad b → HasNoBad (a ++ b)
 HasNoBad-append [] b sound more = more

@@ -1,13 +1,13 @@
 use Rattle.std.proofs.Common.{◌≡◌, ◌<◌, ◌≤◌, ◌++◌, [], Bool, cond, take, arith, length, length-append, ap, ◌∙◌, subst, inl, inr}
 use Rattle.std.proofs.lemmas.List.{length-take-le}
-use Rattle.gft_keep.specs.Words.{keep_of}
 use Rattle.gft_eblock.specs.Words.{wanted}
+use Rattle.gft_keep.specs.Words.{keep_of}
 use Rattle.gridftpd.specs.Follows.{Follows}
 use Rattle.gridftpd.specs.Drain.{IsStored}
 use Rattle.gridftpd.specs.Turn.{IsTurnsOutcome}
 use Rattle.gridftpd.specs.declared.outcome.Outcome.{Outcome}
 use Rattle.gridftpd.proofs.EndLemmas.{Consumes-append, Consumes-nothing}
-use Rattle.gridftpd.proofs.FollowLemmas.{in_time_more}
+use Rattle.gridftpd.proofs.FollowLemmas.{taken_more}
 use Rattle.gridftpd.proofs.intake.Intake.run.Goals as goal
 use Rattle.gridftpd.proofs.intake.Intake.run.Goals.{else-count-eq0-via-then-count-eq0+else-wants-gt0, else-count-eq0-via-else-count-eq0}
 
@@ -16,23 +16,24 @@ returns-then-wants-gt0-clause-caused g c =
     let kept = c.reads.invariant in
     let start = (keep_of g.D.Drive.state c.args.self.now.keep).drive in
     let none : take c.in-Ok.count c.read_next.new.buf ≡ [] = ap (λ n. take n c.read_next.new.buf) c.if-count-eq0.true in
-    let ended = c.in-Ok.ensures.at_end c.if-count-eq0.true (omega (arith, c.if-wants-gt0.true, c.min.ensures, kept.room, c.taken-room.ensures.taken)) in (
+    let ended = c.in-Ok.ensures.at_end c.if-count-eq0.true (omega (arith, c.if-wants-gt0.true, c.min.ensures, kept.room, c.taken-room.ensures.taken)) in
+    let stored = IsStored kept.stream start (keep_of g.D.Drive.state c.reads.self.keep).drive in (
       kept.stream,
       record { consumed = Consumes-nothing _ _ _ kept.stream (take c.in-Ok.count c.read_next.new.buf) none kept.consumed c.in-Ok.ensures.consumed; in_time = kept.follows.in_time },
       c.lost.ensures.caused start kept.stream (g.I.Source.left c.read_next.new.input) kept.follows ended,
-      λ same. elim c.lost.ensures.which [ inl hole ↦ absurd {A = IsStored kept.stream start (keep_of g.D.Drive.state c.reads.self.keep).drive} (cc) | inr lost ↦ absurd {A = IsStored kept.stream start (keep_of g.D.Drive.state c.reads.self.keep).drive} (cc) ],
+      λ same. elim c.lost.ensures.which [ inl hole ↦ absurd {A = stored} (cc) | inr lost ↦ absurd {A = stored} (cc) ],
     )
 
 pub returns-then-count-room-clause-caused : goal.returns-then-count-room-clause-caused
 returns-then-count-room-clause-caused g c =
     let kept = c.reads.invariant in
     let start = (keep_of g.D.Drive.state c.args.self.now.keep).drive in
-    let piece = take c.in-Ok.count c.read_next.new.buf in
-    let len : length piece ≡ c.in-Ok.count = length-take-le c.in-Ok.count c.read_next.new.buf c.in-Ok.ensures.count.0 in
-    let fits : length piece ≤ wanted c.reads.self.channel = omega (arith, c.in-Ok.ensures.count.1, c.min.ensures, c.wants-wants.ensures.wanted, len) in (
-      kept.stream ++ piece,
-      record { consumed = Consumes-append _ _ _ kept.stream piece kept.consumed c.in-Ok.ensures.consumed; in_time = in_time_more g.D.Drive.state start kept.stream piece c.reads.self kept.follows fits },
-      omega (arith, length-append kept.stream piece, len, c.if-count-room.true, c.taken-room.ensures.taken, kept.follows.taken, kept.room),
+    let n = c.in-Ok.count in
+    let wants : c.in-Ok.count ≤ wanted c.reads.self.channel = omega (arith, c.in-Ok.ensures.count.1, c.min.ensures, c.wants-wants.ensures.wanted) in
+    let len : length (take n c.read_next.new.buf) ≡ n = length-take-le n c.read_next.new.buf c.in-Ok.ensures.count.0 in (
+      kept.stream ++ take n c.read_next.new.buf,
+      taken_more g.D.Drive.state start kept.stream c.reads.self _ _ _ c.read_next.new.buf n kept.follows kept.consumed c.in-Ok.ensures.consumed c.in-Ok.ensures.count.0 wants,
+      omega (arith, length-append kept.stream (take n c.read_next.new.buf), len, c.if-count-room.true, c.taken-room.ensures.taken, kept.follows.taken, kept.room),
       λ same. cc,
     )
 
@@ -46,15 +47,13 @@ pub returns-in-Ok-true-clause-caused : goal.returns-in-Ok-true-clause-caused
 returns-in-Ok-true-clause-caused g c =
     let kept = c.reads.invariant in
     let start = (keep_of g.D.Drive.state c.args.self.now.keep).drive in
-    let piece = take c.in-Ok.count c.read_next.new.buf in
-    let stream = kept.stream ++ piece in
-    let len : length piece ≡ c.in-Ok.count = length-take-le c.in-Ok.count c.read_next.new.buf c.in-Ok.ensures.count.0 in
-    let fits : length piece ≤ wanted c.reads.self.channel = omega (arith, c.in-Ok.ensures.count.1, c.min.ensures, c.wants-wants.ensures.wanted, len) in
+    let stream = kept.stream ++ take c.in-Ok.count c.read_next.new.buf in
+    let wants : c.in-Ok.count ≤ wanted c.reads.self.channel = omega (arith, c.in-Ok.ensures.count.1, c.min.ensures, c.wants-wants.ensures.wanted) in
     let ended = c.in-Ok-true.field-0-test in
     let done = c.in-Ok-true.ensures.ended.0 ended in
     let follows = subst (λ (b : Bool). Follows g.D.Drive.state start (cond b 1 0) stream c.turn.new.self) ended (c.in-Ok-true.ensures.follows start kept.stream kept.follows) in (
       stream,
-      record { consumed = Consumes-append _ _ _ kept.stream piece kept.consumed c.in-Ok.ensures.consumed; in_time = in_time_more g.D.Drive.state start kept.stream piece c.reads.self kept.follows fits },
+      taken_more g.D.Drive.state start kept.stream c.reads.self _ _ _ c.read_next.new.buf c.in-Ok.count kept.follows kept.consumed c.in-Ok.ensures.consumed c.in-Ok.ensures.count.0 wants,
       c.finish.ensures.caused start stream (g.I.Source.left c.read_next.new.input) follows done,
       λ same. c.finish.ensures.complete start stream follows done same,
     )
@@ -63,22 +62,20 @@ pub returns-in-Err-clause-caused : goal.returns-in-Err-clause-caused
 returns-in-Err-clause-caused g c =
     let kept = c.reads.invariant in
     let start = (keep_of g.D.Drive.state c.args.self.now.keep).drive in
-    let piece = take c.in-Ok.count c.read_next.new.buf in
-    let len : length piece ≡ c.in-Ok.count = length-take-le c.in-Ok.count c.read_next.new.buf c.in-Ok.ensures.count.0 in
-    let fits : length piece ≤ wanted c.reads.self.channel = omega (arith, c.in-Ok.ensures.count.1, c.min.ensures, c.wants-wants.ensures.wanted, len) in (
-      kept.stream ++ piece,
-      record { consumed = Consumes-append _ _ _ kept.stream piece kept.consumed c.in-Ok.ensures.consumed; in_time = in_time_more g.D.Drive.state start kept.stream piece c.reads.self kept.follows fits },
+    let stream = kept.stream ++ take c.in-Ok.count c.read_next.new.buf in
+    let wants : c.in-Ok.count ≤ wanted c.reads.self.channel = omega (arith, c.in-Ok.ensures.count.1, c.min.ensures, c.wants-wants.ensures.wanted) in (
+      stream,
+      taken_more g.D.Drive.state start kept.stream c.reads.self _ _ _ c.read_next.new.buf c.in-Ok.count kept.follows kept.consumed c.in-Ok.ensures.consumed c.in-Ok.ensures.count.0 wants,
       c.in-Err.ensures.caused start kept.stream (g.I.Source.left c.read_next.new.input) kept.follows,
-      λ same. absurd {A = IsStored (kept.stream ++ piece) start (keep_of g.D.Drive.state c.turn.new.self.keep).drive} (subst (λ (outcome : Outcome). IsTurnsOutcome outcome) same c.in-Err.ensures.which),
+      λ same. absurd {A = IsStored stream start (keep_of g.D.Drive.state c.turn.new.self.keep).drive} (subst (λ (outcome : Outcome). IsTurnsOutcome outcome) same c.in-Err.ensures.which),
     )
 
 pub reads-smaller : goal.reads-smaller
 reads-smaller g c =
     let kept = c.reads.invariant in
-    let start = (keep_of g.D.Drive.state c.args.self.now.keep).drive in
     let piece = take c.in-Ok.count c.read_next.new.buf in
     let len : length piece ≡ c.in-Ok.count = length-take-le c.in-Ok.count c.read_next.new.buf c.in-Ok.ensures.count.0 in
-    let grown = c.in-Ok-false.ensures.follows start kept.stream kept.follows in
+    let grown = c.in-Ok-false.ensures.follows (keep_of g.D.Drive.state c.args.self.now.keep).drive kept.stream kept.follows in
     let some : 0 < c.in-Ok.count = elim c.else-count-eq0.branch [
       | else-count-eq0-via-then-count-eq0+else-wants-gt0 w ↦
           let none : wanted c.reads.self.channel ≡ 0 = omega (arith, w.if-wants-gt0.false, c.wants-wants.ensures.wanted) in
@@ -92,14 +89,13 @@ reads-preserved g c =
     let kept = c.reads.invariant in
     let start = (keep_of g.D.Drive.state c.args.self.now.keep).drive in
     let piece = take c.in-Ok.count c.read_next.new.buf in
-    let stream = kept.stream ++ piece in
     let more = c.in-Ok-false.field-0-test in
     let len : length piece ≡ c.in-Ok.count = length-take-le c.in-Ok.count c.read_next.new.buf c.in-Ok.ensures.count.0 in
     let grown = c.in-Ok-false.ensures.follows start kept.stream kept.follows in
     record {
-      stream = stream;
+      stream = kept.stream ++ piece;
       consumed = Consumes-append _ _ _ kept.stream piece kept.consumed c.in-Ok.ensures.consumed;
-      follows = subst (λ (b : Bool). Follows g.D.Drive.state start (cond b 1 0) stream c.turn.new.self) more grown;
+      follows = subst (λ (b : Bool). Follows g.D.Drive.state start (cond b 1 0) (kept.stream ++ piece) c.turn.new.self) more grown;
       not_done = λ done. cc (more, c.in-Ok-false.ensures.ended.1 done);
       room = omega (arith, kept.room, kept.follows.taken, grown.taken, length-append kept.stream piece, len, c.in-Ok.ensures.count.1, c.min.ensures, c.taken-room.ensures.taken, c.if-count-room.false);
       read_faults = c.in-Ok.ensures.cause.kept ∙ kept.read_faults;
