@@ -5,7 +5,7 @@ use Rattle.std.proofs.lemmas.Option.{none-some}
 use Rattle.gft_core.specs.declared.event.CoreEvent.{CoreEvent}
 use Rattle.gft_core.specs.Kept.{answered, kept_in, generation, kept}
 use Rattle.gft_core.specs.Laws.{AllCarry, OneHas, HonestLaw, PrefixLaw}
-use Rattle.gft_core.proofs.OptionLemmas.{first_front, first_back, first_either, same_options}
+use Rattle.gft_core.proofs.OptionLemmas.{first_some_front, first_some_back, first_some_either, same_options}
 
 pub below_length : (l : List ℕ) (i v : ℕ) → slice_get l i ≡ Some v → i < length l
 below_length [] i v e = absurd (none-some v e)
@@ -15,21 +15,21 @@ below_length (x ∷ xs) (suc i) v e = let h = below_length xs i v e in omega ari
 kept_sent : (source : List ℕ) (events : List CoreEvent) → AllCarry source events → (x v : ℕ) → kept_in events x ≡ Some v → slice_get source x ≡ Some v
 kept_sent source [] all x v k = absurd (none-some v k)
 kept_sent source (e ∷ older) all x v k =
-    ⊎_elim (λ p. kept_sent source older all.0 x v p) (λ p. all.1 x v p) (first_either (kept_in older x) (answered e x) v k)
+    ⊎_elim (λ p. kept_sent source older all.0 x v p) (λ p. all.1 x v p) (first_some_either (kept_in older x) (answered e x) v k)
 
 booked_where_sent : (events : List CoreEvent) (x : ℕ) → OneHas x events → (v : ℕ) × (kept_in events x ≡ Some v)
 booked_where_sent [] x h = absurd h
 booked_where_sent (e ∷ older) x h =
     ⊎_elim
-    (λ p. let b = booked_where_sent older x p in (b.0, first_front (kept_in older x) (answered e x) b.0 b.1))
-    (λ p. first_back (kept_in older x) (answered e x) p.0 p.1)
+    (λ p. let b = booked_where_sent older x p in (b.0, first_some_front (kept_in older x) (answered e x) b.0 b.1))
+    (λ p. first_some_back (kept_in older x) (answered e x) p.0 p.1)
     h
 
 -- what is kept was sent
 pub sent_where_booked : (events : List CoreEvent) (x v : ℕ) → kept_in events x ≡ Some v → OneHas x events
 sent_where_booked [] x v k = absurd (none-some v k)
 sent_where_booked (e ∷ older) x v k =
-    ⊎_elim (λ p. inl (sent_where_booked older x v p)) (λ p. inr (v, p)) (first_either (kept_in older x) (answered e x) v k)
+    ⊎_elim (λ p. inl (sent_where_booked older x v p)) (λ p. inr (v, p)) (first_some_either (kept_in older x) (answered e x) v k)
 
 pub honest : HonestLaw
 honest source events is_honest done x =

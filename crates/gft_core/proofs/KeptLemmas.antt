@@ -7,9 +7,9 @@ use native.Mathlib.Decide.{ℕ_discrete}
 use Rattle.gft_core.specs.declared.event.CoreEvent.{CoreEvent}
 use Rattle.gft_core.specs.declared.event.CoreEvent.TheVariants.{Block}
 use Rattle.gft_core.specs.declared.taken.TakenBlock.{TakenBlock}
-use Rattle.gft_core.specs.Kept.{first, byte_at, kept, Booked}
+use Rattle.gft_core.specs.Kept.{first_some, byte_at, kept, Booked}
 use Rattle.gft_core.specs.Machine.{byte_of}
-use Rattle.gft_core.proofs.OptionLemmas.{first-none, first-assoc, first_front, first_back, first_either}
+use Rattle.gft_core.proofs.OptionLemmas.{first_some-none, first_some-assoc, first_some_front, first_some_back, first_some_either}
 
 pub byte_at-here : (offset b : ℕ) (bs : List ℕ) (x : ℕ) → x ≡ offset → byte_at offset (b ∷ bs) x ≡ Some b
 byte_at-here offset b bs x e = ap (λ (c : Bool). if c then Some b else byte_at (offset + 1) bs x) (eq-eqb x offset e)
@@ -35,10 +35,10 @@ within_byte offset (b ∷ bs) x v k =
 pub Booked-block : (lane channel offset : ℕ) (bytes : List ℕ) (events : List CoreEvent) (x : ℕ)
     → Booked (Block lane channel offset bytes false ∷ events) x ↔ (Booked events x ⊎ ((offset ≤ x) × (x < offset + length bytes)))
 Booked-block lane channel offset bytes events x = (
-  λ b. ⊎_elim (λ old. inl (b.0, old)) (λ new. inr (within_byte offset bytes x b.0 new)) (first_either (kept events x) (byte_at offset bytes x) b.0 b.1),
+  λ b. ⊎_elim (λ old. inl (b.0, old)) (λ new. inr (within_byte offset bytes x b.0 new)) (first_some_either (kept events x) (byte_at offset bytes x) b.0 b.1),
   λ either. ⊎_elim
-      (λ b. (b.0, first_front (kept events x) (byte_at offset bytes x) b.0 b.1))
-      (λ within. let byte = byte_within offset bytes x within.0 within.1 in first_back (kept events x) (byte_at offset bytes x) byte.0 byte.1)
+      (λ b. (b.0, first_some_front (kept events x) (byte_at offset bytes x) b.0 b.1))
+      (λ within. let byte = byte_within offset bytes x within.0 within.1 in first_some_back (kept events x) (byte_at offset bytes x) byte.0 byte.1)
       either,
 )
 
@@ -58,8 +58,8 @@ byte_at-get offset (suc place) (b ∷ bs) =
 
 -- ---- the byte of a list of blocks
 
-pub byte_of-push : (blocks : List TakenBlock) (block : TakenBlock) (x : ℕ) → byte_of (blocks ++ block ∷ []) x ≡ first (byte_of blocks x) (byte_at block.offset block.bytes x)
-byte_of-push [] block x = first-none (byte_at block.offset block.bytes x)
+pub byte_of-push : (blocks : List TakenBlock) (block : TakenBlock) (x : ℕ) → byte_of (blocks ++ block ∷ []) x ≡ first_some (byte_of blocks x) (byte_at block.offset block.bytes x)
+byte_of-push [] block x = first_some-none (byte_at block.offset block.bytes x)
 byte_of-push (b ∷ bs) block x =
-    ap (first (byte_at b.offset b.bytes x)) (byte_of-push bs block x)
-    ∙ sym (first-assoc (byte_at b.offset b.bytes x) (byte_of bs x) (byte_at block.offset block.bytes x))
+    ap (first_some (byte_at b.offset b.bytes x)) (byte_of-push bs block x)
+    ∙ sym (first_some-assoc (byte_at b.offset b.bytes x) (byte_of bs x) (byte_at block.offset block.bytes x))

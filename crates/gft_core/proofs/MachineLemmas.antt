@@ -6,11 +6,11 @@ use Rattle.gft_range.specs.Words.{InRange, HasOffset}
 use Rattle.gft_core.specs.declared.event.CoreEvent.{CoreEvent}
 use Rattle.gft_core.specs.declared.event.CoreEvent.TheVariants.{Block}
 use Rattle.gft_core.specs.declared.taken.TakenBlock.{TakenBlock}
-use Rattle.gft_core.specs.Kept.{first, byte_at, kept, Booked}
+use Rattle.gft_core.specs.Kept.{first_some, byte_at, kept, Booked}
 use Rattle.gft_core.specs.Done.{Done}
 use Rattle.gft_core.specs.Machine.{State, Stands, byte_of}
-use Rattle.gft_core.specs.Progress.{IsSound, HasMet}
-use Rattle.gft_core.proofs.OptionLemmas.{first-none, has-first_none}
+use Rattle.gft_core.specs.Progress.{IsSoundProgress, HasMet}
+use Rattle.gft_core.proofs.OptionLemmas.{first_some-none, has-first_some_none}
 use Rattle.gft_core.proofs.KeptLemmas.{Booked-block, byte_of-push}
 use Rattle.gft_core.proofs.ProgressLemmas.{done_where_met}
 
@@ -28,15 +28,15 @@ value_of (Err e) P is h = absurd (true≢false is)
 
 -- what books nothing leaves the set as it is
 pub still_booked : (events : List CoreEvent) (ranges : List Range) → ((x : ℕ) → HasOffset ranges x ↔ Booked events x)
-    → (x : ℕ) → HasOffset ranges x ↔ ((v : ℕ) × (first (kept events x) None ≡ Some v))
+    → (x : ℕ) → HasOffset ranges x ↔ ((v : ℕ) × (first_some (kept events x) None ≡ Some v))
 still_booked events ranges same x =
-    let none = has-first_none (kept events x) in (λ h. none.0 ((same x).0 h), λ b. (same x).1 (none.1 b))
+    let none = has-first_some_none (kept events x) in (λ h. none.0 ((same x).0 h), λ b. (same x).1 (none.1 b))
 
 -- what brings no byte leaves the bytes as they are
-pub still_kept : (now old : Option ℕ) → now ≡ old → now ≡ first old None
-still_kept now old same = same ∙ sym (first-none old)
+pub still_kept : (now old : Option ℕ) → now ≡ old → now ≡ first_some old None
+still_kept now old same = same ∙ sym (first_some-none old)
 
-pub empty_kept : (offset : ℕ) (bytes : List ℕ) (x : ℕ) → offset ≡ offset + length bytes → (now old : Option ℕ) → now ≡ old → now ≡ first old (byte_at offset bytes x)
+pub empty_kept : (offset : ℕ) (bytes : List ℕ) (x : ℕ) → offset ≡ offset + length bytes → (now old : Option ℕ) → now ≡ old → now ≡ first_some old (byte_at offset bytes x)
 empty_kept offset [] x none now old same = still_kept now old same
 empty_kept offset (b ∷ bs) x none now old same = absurd (omega (arith, none))
 
@@ -47,7 +47,7 @@ pub block_kept : (lane channel offset : ℕ) (bytes : List ℕ) (events : List C
     → (x : ℕ) → byte_of (blocks ++ block ∷ []) x ≡ kept (Block lane channel offset bytes false ∷ events) x
 block_kept lane channel offset bytes events blocks block at carried same x =
     byte_of-push blocks block x
-    ∙ ap (λ o. first o (byte_at block.offset block.bytes x)) (same x)
+    ∙ ap (λ o. first_some o (byte_at block.offset block.bytes x)) (same x)
     ∙ rw (at, carried) refl
 
 -- an answered block adds its offsets
@@ -66,7 +66,7 @@ pub nothing_more : (offset : ℕ) (bytes : List ℕ) (ranges : List Range) → o
 nothing_more offset bytes ranges none x = (λ h. inl h, λ either. ⊎_elim (λ h. h) (λ i. absurd (omega (arith, i.0, i.1))) either)
 
 -- the machine is done where its transfer is met and its set has no hole
-pub done_where_whole : (events : List CoreEvent) (state : State) (end : ℕ) (covered : Bool) → Stands events state → IsSound state.progress → HasMet state.progress
+pub done_where_whole : (events : List CoreEvent) (state : State) (end : ℕ) (covered : Bool) → Stands events state → IsSoundProgress state.progress → HasMet state.progress
     → ((x : ℕ) → HasOffset state.booked.ranges x → x < end)
     → ((end ≡ 0) ⊎ HasOffset state.booked.ranges (end - 1))
     → (IsTrue covered ↔ ((x : ℕ) → InRange (record { start = 0; end = end }) x → HasOffset state.booked.ranges x))

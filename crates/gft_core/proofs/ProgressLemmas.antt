@@ -13,10 +13,10 @@ use Rattle.gft_core.specs.declared.event.CoreEvent.{CoreEvent}
 use Rattle.gft_core.specs.declared.event.CoreEvent.TheVariants.{Block, Eod, Eof, Mark}
 use Rattle.gft_core.specs.declared.progress.Progress.{Progress}
 use Rattle.gft_core.specs.declared.progress.Progress.TheVariants.{Idle, Counting, Failed}
-use Rattle.gft_core.specs.Kept.{first, Booked}
+use Rattle.gft_core.specs.Kept.{first_some, Booked}
 use Rattle.gft_core.specs.Done.{since, total, AllPass, Done}
-use Rattle.gft_core.specs.Progress.{IsUnbroken, Counts, Tells, IsSound, HasMet}
-use Rattle.gft_core.proofs.OptionLemmas.{first-none, first_either}
+use Rattle.gft_core.specs.Progress.{IsUnbroken, CountsTransfer, Tells, IsSoundProgress, HasMet}
+use Rattle.gft_core.proofs.OptionLemmas.{first_some-none, first_some_either}
 
 -- ---- what the events of a transfer say
 
@@ -24,8 +24,8 @@ use Rattle.gft_core.proofs.OptionLemmas.{first-none, first_either}
 pub total_is : (transfer : List CoreEvent) (n k : ℕ) → AllPass n transfer → total transfer ≡ Some k → k ≡ n
 total_is [] n k pass t = absurd (none-some k t)
 total_is (Eof new ∷ older) n k pass t =
-    ⊎_elim (λ p. total_is older n k pass.0 p) (λ (p : Some new ≡ Some k). sym (same_Some new k p) ∙ pass.1) (first_either (total older) (Some new) k t)
-total_is (e ∷ older) n k pass t = total_is older n k pass.0 (sym (first-none (total older)) ∙ t)
+    ⊎_elim (λ p. total_is older n k pass.0 p) (λ (p : Some new ≡ Some k). sym (same_Some new k p) ∙ pass.1) (first_some_either (total older) (Some new) k t)
+total_is (e ∷ older) n k pass t = total_is older n k pass.0 (sym (first_some-none (total older)) ∙ t)
 
 -- a broken transfer stays broken
 pub broken_stays : (transfer : List CoreEvent) (e : CoreEvent) → ((n : ℕ) → ¬ IsUnbroken transfer n) → (n : ℕ) → ¬ IsUnbroken (e ∷ transfer) n
@@ -34,11 +34,11 @@ broken_stays transfer e broken n unbroken =
 
 -- ---- events that count nothing
 
-counts_block : (lane channel offset : ℕ) (bytes : List ℕ) (unanswered : Bool) (transfer : List CoreEvent) (count : Count) → Counts transfer count
-    → Counts (Block lane channel offset bytes unanswered ∷ transfer) count
+counts_block : (lane channel offset : ℕ) (bytes : List ℕ) (unanswered : Bool) (transfer : List CoreEvent) (count : Count) → CountsTransfer transfer count
+    → CountsTransfer (Block lane channel offset bytes unanswered ∷ transfer) count
 counts_block lane channel offset bytes unanswered transfer count c =
     record {
-      total = first-none (total transfer) ∙ c.total;
+      total = first_some-none (total transfer) ∙ c.total;
       eods = omega (arith, c.eods);
       passes = λ n h. (c.passes n h, tt);
     }
@@ -49,10 +49,10 @@ Tells-block lane channel offset bytes unanswered events Idle t = t
 Tells-block lane channel offset bytes unanswered events (Counting count) t = (t.0, counts_block lane channel offset bytes unanswered (since events) count t.1)
 Tells-block lane channel offset bytes unanswered events Failed t = broken_stays (since events) (Block lane channel offset bytes unanswered) t
 
-counts_mark : (transfer : List CoreEvent) (count : Count) → Counts transfer count → Counts (Mark ∷ transfer) count
+counts_mark : (transfer : List CoreEvent) (count : Count) → CountsTransfer transfer count → CountsTransfer (Mark ∷ transfer) count
 counts_mark transfer count c =
     record {
-      total = first-none (total transfer) ∙ c.total;
+      total = first_some-none (total transfer) ∙ c.total;
       eods = omega (arith, c.eods);
       passes = λ n h. (c.passes n h, tt);
     }
@@ -64,12 +64,12 @@ Tells-mark events Failed t = broken_stays (since events) Mark t
 
 -- ---- an Eod
 
-pub Counts-eod : (lane : ℕ) (transfer : List CoreEvent) (old new : Count) → new.total ≡ old.total → new.eods ≡ old.eods + 1 → Counts transfer old → Counts (Eod lane ∷ transfer) new
+pub Counts-eod : (lane : ℕ) (transfer : List CoreEvent) (old new : Count) → new.total ≡ old.total → new.eods ≡ old.eods + 1 → CountsTransfer transfer old → CountsTransfer (Eod lane ∷ transfer) new
 Counts-eod lane transfer old new same more c =
     record {
-      total = first-none (total transfer) ∙ c.total ∙ sym same;
+      total = first_some-none (total transfer) ∙ c.total ∙ sym same;
       eods = omega (arith, c.eods, more);
-      passes = λ n h. (c.passes n (ap (λ o. first o (Some n)) (sym same) ∙ h), tt);
+      passes = λ n h. (c.passes n (ap (λ o. first_some o (Some n)) (sym same) ∙ h), tt);
     }
 
 -- an Eod that fits is taken
@@ -78,10 +78,10 @@ eod_fits None taken n most is below = ap (λ (c : Bool). if c then Some (TooMany
 eod_fits (Some k) taken n most is below =
     let k_is = is k refl in ap (λ (c : Bool). if c then Some (TooManyEods k) else None) (lt-leb k taken (omega arith))
 
-known_is : (transfer : List CoreEvent) (count : Count) (n : ℕ) → Counts transfer count → AllPass n transfer → (k : ℕ) → count.total ≡ Some k → k ≡ n
+known_is : (transfer : List CoreEvent) (count : Count) (n : ℕ) → CountsTransfer transfer count → AllPass n transfer → (k : ℕ) → count.total ≡ Some k → k ≡ n
 known_is transfer count n c pass k e = total_is transfer n k pass (c.total ∙ e)
 
-pub broken-eod : (lane : ℕ) (transfer : List CoreEvent) (count : Count) (error : EodError) → eod_refusal count ≡ Some error → Counts transfer count → (n : ℕ) → ¬ IsUnbroken (Eod lane ∷ transfer) n
+pub broken-eod : (lane : ℕ) (transfer : List CoreEvent) (count : Count) (error : EodError) → eod_refusal count ≡ Some error → CountsTransfer transfer count → (n : ℕ) → ¬ IsUnbroken (Eod lane ∷ transfer) n
 broken-eod lane transfer count error refused c n unbroken =
     none-some error
     (sym (eod_fits count.total count.eods n unbroken.in_bounds.1 (known_is transfer count n c unbroken.passes.0) (omega (arith, c.eods, unbroken.at_most))) ∙ refused)
@@ -113,7 +113,7 @@ eof_fits count new some most is le =
     ∙ ap (λ (c : Bool). if c then Some (BadTotal new) else totals_refusal count.total count.eods new) (le-ltb MAX_EODS new most)
     ∙ totals_fit count.total count.eods new is le
 
-pub broken-eof : (new : ℕ) (transfer : List CoreEvent) (count : Count) (error : EodError) → eof_refusal count new ≡ Some error → Counts transfer count → (n : ℕ) → ¬ IsUnbroken (Eof new ∷ transfer) n
+pub broken-eof : (new : ℕ) (transfer : List CoreEvent) (count : Count) (error : EodError) → eof_refusal count new ≡ Some error → CountsTransfer transfer count → (n : ℕ) → ¬ IsUnbroken (Eof new ∷ transfer) n
 broken-eof new transfer count error refused c n unbroken =
     let is_n : new ≡ n = unbroken.passes.1 in
     none-some error
@@ -123,7 +123,7 @@ pub else_none : (b : Bool) (error : EodError) (other : Option EodError) → (if 
 else_none true error other e = absurd (none-some error (sym e))
 else_none false error other e = e
 
-first_is : (known : Option ℕ) (taken new : ℕ) → totals_refusal known taken new ≡ None → first known (Some new) ≡ Some new
+first_is : (known : Option ℕ) (taken new : ℕ) → totals_refusal known taken new ≡ None → first_some known (Some new) ≡ Some new
 first_is None taken new fits = refl
 first_is (Some k) taken new fits =
     dite (ℕ_discrete k new)
@@ -131,20 +131,20 @@ first_is (Some k) taken new fits =
     (λ ne. let other : totals_refusal (Some k) taken new ≡ Some (TwoTotals k new) = ap (λ (c : Bool). if c then eods_refusal taken new else Some (TwoTotals k new)) (ne_eqb k new ne) in
     absurd (none-some (TwoTotals k new) (sym fits ∙ other)))
 
-pub Counts-eof : (announced : ℕ) (transfer : List CoreEvent) (old new : Count) → eof_refusal old announced ≡ None → new.total ≡ Some announced → new.eods ≡ old.eods → Counts transfer old → Counts (Eof announced ∷ transfer) new
+pub Counts-eof : (announced : ℕ) (transfer : List CoreEvent) (old new : Count) → eof_refusal old announced ≡ None → new.total ≡ Some announced → new.eods ≡ old.eods → CountsTransfer transfer old → CountsTransfer (Eof announced ∷ transfer) new
 Counts-eof announced transfer old new fits kept same c =
     let is_first = first_is old.total old.eods announced (else_none (nat_eq announced 0 || nat_lt MAX_EODS announced) (BadTotal announced) (totals_refusal old.total old.eods announced) fits) in
     record {
-      total = ap (λ o. first o (Some announced)) c.total ∙ is_first ∙ sym kept;
+      total = ap (λ o. first_some o (Some announced)) c.total ∙ is_first ∙ sym kept;
       eods = omega (arith, c.eods, same);
       passes = λ n h.
-          let is_n : announced ≡ n = same_Some announced n (ap (λ o. first o (Some n)) (sym kept) ∙ h) in
-          (c.passes n (subst (λ (m : ℕ). first old.total (Some m) ≡ Some m) is_n is_first), is_n);
+          let is_n : announced ≡ n = same_Some announced n (ap (λ o. first_some o (Some n)) (sym kept) ∙ h) in
+          (c.passes n (subst (λ (m : ℕ). first_some old.total (Some m) ≡ Some m) is_n is_first), is_n);
     }
 
 -- ---- a transfer that is done
 
-pub done_where_met : (events : List CoreEvent) (progress : Progress) → Tells events progress → IsSound progress → HasMet progress → (end : ℕ) → ((x : ℕ) → Booked events x ↔ (x < end)) → Done events
+pub done_where_met : (events : List CoreEvent) (progress : Progress) → Tells events progress → IsSoundProgress progress → HasMet progress → (end : ℕ) → ((x : ℕ) → Booked events x ↔ (x < end)) → Done events
 done_where_met events Idle t sound met end whole = absurd met
 done_where_met events (Counting count) t sound met end whole =
     let within = subst (λ (o : Option ℕ). IsWithin o count.eods) met sound in
@@ -154,7 +154,7 @@ done_where_met events (Counting count) t sound met end whole =
       total = t.1.total ∙ met;
       in_bounds = (within.0, within.1);
       met = t.1.eods;
-      passes = t.1.passes count.eods (ap (λ o. first o (Some count.eods)) met);
+      passes = t.1.passes count.eods (ap (λ o. first_some o (Some count.eods)) met);
       whole = (end, whole);
     }
 done_where_met events Failed t sound met end whole = absurd met

@@ -1,9 +1,10 @@
 -- When a transfer is done.
-use Rattle.std.specs.Prelude.{◌≡◌, ℕ, ◌+◌, ◌<◌, ◌≤◌, ◌↔◌, List, [], ◌∷◌, Option, Some, None, Bool, true, false}
+use Rattle.std.specs.Prelude.{◌≡◌, ℕ, ◌+◌, ◌<◌, ◌≤◌, ◌↔◌, List, [], ◌∷◌}
+use Rattle.std.specs.Prelude.{Option, Some, None, Bool, true, false}
 use Rattle.gft_eod.specs.declared.TheConstants.{MAX_EODS}
 use Rattle.gft_core.specs.declared.event.CoreEvent.{CoreEvent}
 use Rattle.gft_core.specs.declared.event.CoreEvent.TheVariants.{Eod, Eof, Lost, Fault, Abort, Fresh, Resume}
-use Rattle.gft_core.specs.Kept.{first, Booked}
+use Rattle.gft_core.specs.Kept.{first_some, Booked}
 
 -- the events of the last transfer: those since the last Fresh or Resume
 abbrev pub since : List CoreEvent → List CoreEvent
@@ -26,16 +27,16 @@ total_in e = None
 -- the total of the first Eof
 abbrev pub total : List CoreEvent → Option ℕ
 total [] = None
-total (e ∷ older) = first (total older) (total_in e)
+total (e ∷ older) = first_some (total older) (total_in e)
 
 abbrev pub eods_in : CoreEvent → ℕ
 eods_in (Eod lane) = 1
 eods_in e = 0
 
 -- how many Eods there are
-abbrev pub eods : List CoreEvent → ℕ
-eods [] = 0
-eods (e ∷ older) = eods older + eods_in e
+abbrev pub eod_count : List CoreEvent → ℕ
+eod_count [] = 0
+eod_count (e ∷ older) = eod_count older + eods_in e
 
 -- an event that does not fail a transfer with n EODs: each Eof says n
 abbrev pub Passes : ℕ → CoreEvent → Type 0
@@ -49,12 +50,13 @@ abbrev pub AllPass : ℕ → List CoreEvent → Type 0
 AllPass n [] = Unit {0}
 AllPass n (e ∷ older) = AllPass n older × Passes n e
 
--- the last transfer is done: it announced a total and has as many Eods, nothing failed it, and what is booked has no hole
+-- the last transfer is done: it announced a total and has as many Eods, nothing failed it, and what is
+-- booked has no hole
 pub record Done (events : List CoreEvent) : Type 0 where
   pub begun : begun events ≡ true
   pub number : ℕ
   pub total : total (since events) ≡ Some number
   pub in_bounds : (1 ≤ number) × (number ≤ MAX_EODS)
-  pub met : eods (since events) ≡ number
+  pub met : eod_count (since events) ≡ number
   pub passes : AllPass number (since events)
   pub whole : (end : ℕ) × ((x : ℕ) → Booked events x ↔ (x < end))

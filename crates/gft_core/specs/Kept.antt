@@ -1,15 +1,16 @@
 -- Lists of events, the newest first, and the bytes that they leave of a name.
-use Rattle.std.specs.Prelude.{◌≡◌, ℕ, ◌+◌, ◌≤◌, ◌==◌, List, [], ◌∷◌, length, Option, Some, None, true, false, if◌then◌else◌}
+use Rattle.std.specs.Prelude.{◌≡◌, ℕ, ◌+◌, ◌≤◌, ◌==◌, List, [], ◌∷◌, length}
+use Rattle.std.specs.Prelude.{Option, Some, None, true, false, if◌then◌else◌}
 use Rattle.gft_base.specs.declared.TheConstants.{LIMIT}
 use Rattle.gft_core.specs.declared.event.CoreEvent.{CoreEvent}
 use Rattle.gft_core.specs.declared.event.CoreEvent.TheVariants.{Block, Fresh}
 
 -- the first of two, or else the second
-abbrev pub first : Option ℕ → Option ℕ → Option ℕ
-first (Some v) other = Some v
-first None other = other
+abbrev pub first_some : Option ℕ → Option ℕ → Option ℕ
+first_some (Some v) other = Some v
+first_some None other = other
 
--- the byte at x, where bytes lie at this offset and onwards
+-- the byte at x, if these bytes lie at this offset and onwards
 abbrev pub byte_at : ℕ → List ℕ → ℕ → Option ℕ
 byte_at offset [] x = None
 byte_at offset (b ∷ bs) x = if x == offset then Some b else byte_at (offset + 1) bs x
@@ -41,7 +42,7 @@ generation (e ∷ older) = e ∷ generation older
 -- the kept byte at x in one generation: that of the earliest answered block which has one
 abbrev pub kept_in : List CoreEvent → ℕ → Option ℕ
 kept_in [] x = None
-kept_in (e ∷ older) x = first (kept_in older x) (answered e x)
+kept_in (e ∷ older) x = first_some (kept_in older x) (answered e x)
 
 -- the kept byte at x, in the last generation
 abbrev pub kept : List CoreEvent → ℕ → Option ℕ

@@ -5,13 +5,13 @@ use Rattle.gft_core.specs.Kept.{answered, generation, kept}
 use Rattle.gft_core.specs.Done.{Done}
 
 -- these bytes are the source's, and lie below its length
-abbrev pub Carries : List ℕ → (ℕ → Option ℕ) → Type 0
-Carries source bytes = (x v : ℕ) → bytes x ≡ Some v → slice_get source x ≡ Some v
+abbrev pub CarriesSource : List ℕ → (ℕ → Option ℕ) → Type 0
+CarriesSource source bytes = (x v : ℕ) → bytes x ≡ Some v → slice_get source x ≡ Some v
 
 -- each answered block carries bytes of the source
 abbrev pub AllCarry : List ℕ → List CoreEvent → Type 0
 AllCarry source [] = Unit {0}
-AllCarry source (e ∷ older) = AllCarry source older × Carries source (answered e)
+AllCarry source (e ∷ older) = AllCarry source older × CarriesSource source (answered e)
 
 -- an answered block has a byte at x
 abbrev pub OneHas : ℕ → List CoreEvent → Type 0
@@ -19,14 +19,17 @@ OneHas x [] = ⊥
 OneHas x (e ∷ older) = OneHas x older ⊎ ((v : ℕ) × (answered e x ≡ Some v))
 
 -- the answered blocks of the last generation carry bytes of the source, and cover it
-pub record IsHonest (source : List ℕ) (events : List CoreEvent) : Type 0 where
+pub record SendsSource (source : List ℕ) (events : List CoreEvent) : Type 0 where
   pub carry : AllCarry source (generation events)
   pub cover : (x : ℕ) → x < length source → OneHas x (generation events)
 
 abbrev pub HonestLaw : Type 0
-HonestLaw = (source : List ℕ) (events : List CoreEvent) → IsHonest source events → Done events → (x : ℕ) → kept events x ≡ slice_get source x
+HonestLaw = (source : List ℕ) (events : List CoreEvent) → SendsSource source events → Done events
+    → (x : ℕ) → kept events x ≡ slice_get source x
 
 -- without cover: the kept bytes are those of the source below some end, and there are no others
 abbrev pub PrefixLaw : Type 0
 PrefixLaw = (source : List ℕ) (events : List CoreEvent) → AllCarry source (generation events) → Done events
-    → (end : ℕ) × (end ≤ length source) × ((x : ℕ) → x < end → kept events x ≡ slice_get source x) × ((x : ℕ) → end ≤ x → kept events x ≡ None)
+    → (end : ℕ) × (end ≤ length source)
+    × ((x : ℕ) → x < end → kept events x ≡ slice_get source x)
+    × ((x : ℕ) → end ≤ x → kept events x ≡ None)

@@ -5,7 +5,7 @@ use gft_range::RangeSet;
 #[derive(Drop)]
 pub enum CoreEvent {
     /// A block came on a data connection of a lane: bytes for this offset and onwards. It is
-    /// unanswered where it was begun, and no answer says that it was stored.
+    /// unanswered if it was begun, and no answer says that it was stored.
     Block {
         lane: u16,
         channel: u32,

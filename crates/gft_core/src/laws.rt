@@ -2,8 +2,8 @@
 
 ghost use Rattle.gft_core.specs.Laws.{HonestLaw, PrefixLaw};
 
-/// Where the answered blocks of the last generation carry bytes of one source, a transfer that is
-/// done has kept a front of it, and the whole where they cover it.
+/// If the answered blocks of the last generation carry bytes of one source, a transfer that is done
+/// has kept a front of it, and the whole if they cover it.
 pub fn honest_law()
     ensures whole { HonestLaw }
     ensures front { PrefixLaw }

@@ -94,7 +94,7 @@ impl Core {
         &self.booked
     }
 
-    /// The kept byte at an offset, where there is one: that of the earliest block which has it.
+    /// The kept byte at an offset, if there is one: that of the earliest block which has it.
     pub fn kept_byte(&self, offset: u64) -> Option<u8>
         ensures byte { (events : List CoreEvent) → Stands events self.now →
             result ≡ kept events offset }

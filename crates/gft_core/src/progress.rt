@@ -1,7 +1,7 @@
 ghost use Rattle.std.specs.Prelude.{◌≡◌, ℕ, ◌↔◌, List, [], ◌∷◌, IsTrue};
 ghost use Rattle.gft_core.specs.declared.event.CoreEvent.{CoreEvent};
 ghost use Rattle.gft_core.specs.declared.event.CoreEvent.TheVariants as event;
-ghost use Rattle.gft_core.specs.Progress.{Tells, IsSound, HasMet};
+ghost use Rattle.gft_core.specs.Progress.{Tells, IsSoundProgress, HasMet};
 
 use gft_eod::EodCount;
 
@@ -55,7 +55,7 @@ impl Progress {
     /// Whether it runs, nothing failed it, and it has as many EODs as its total.
     pub fn is_met(&self) -> bool
         ensures met { IsTrue result ↔ HasMet self.now }
-        ensures sound { IsSound self.now }
+        ensures sound { IsSoundProgress self.now }
     {
         match self {
             Progress::Counting(count) => count.is_met(),

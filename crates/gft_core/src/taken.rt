@@ -12,7 +12,7 @@ pub struct TakenBlock {
 }
 
 impl TakenBlock {
-    /// A block with a copy of these bytes. `OutOfMemory` when it can't be allocated.
+    /// A block with a copy of these bytes. `OutOfMemory` if it can't be allocated.
     pub fn copy_of(offset: u64, bytes: &Octets) -> Result<TakenBlock, OutOfMemory>
         ensures { IfOk result (λ block. (block.offset ≡ offset) × (block.bytes ≡ bytes.now)) }
     {
@@ -20,7 +20,7 @@ impl TakenBlock {
         Ok(TakenBlock { offset, bytes })
     }
 
-    /// The block's byte at an offset, where it has one.
+    /// The block's byte at an offset, if it has one.
     pub fn byte_at(&self, offset: u64) -> Option<u8>
         ensures { result ≡ byte_at self.now.offset self.now.bytes offset }
     {

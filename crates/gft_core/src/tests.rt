@@ -97,6 +97,8 @@ fn rows_of_events(rt: HostRuntime) -> Result<(), Fail> {
         assert_eq!(rt; core.kept_byte(0), byte, "{told:?}");
         assert_eq!(rt; core.is_done(), done, "{told:?}");
     }
+    let octets = Octets::from_bytes(rt.alloc(), b"hello")?;
+    assert!(rt; octets == octets.copy()?);
     laws::honest_law();
     Ok(())
 }

@@ -18,7 +18,7 @@ other_part_of Ranges image = image.bytes
 
 pub record DriveState : Type 0 where
   pub label : List ℕ
-  -- what a read gives; None where the drive doesn't tell it
+  -- what a read gives; None if the drive doesn't tell it
   pub contents : Option Image
   -- how often a call failed
   pub faults : ℕ
@@ -38,7 +38,7 @@ pub record OnPart (part : Part) (step : List ℕ → List ℕ → Type 0) (old n
   pub changed : step (part_of part old) (part_of part new)
   pub kept : other_part_of part new ≡ other_part_of part old
 
--- what a read gives changes by this step, where the drive tells it
+-- what a read gives changes by this step, if the drive tells it
 abbrev pub ReadsBy : (Image → Image → Type 0) → DriveState → DriveState → Type 0
 ReadsBy step old new =
     (from : Image) → old.contents ≡ Some from

@@ -2,12 +2,12 @@
 use Rattle.std.specs.Prelude.{ℕ, Bool, List, Option}
 
 pub record OnReader : Type 0 where
-  -- the bytes that the reader has left, where it tells them
+  -- the bytes that the reader has left, if it tells them
   pub left : Option (List ℕ)
   pub faults : ℕ
 
 pub record OnWriter : Type 0 where
-  -- the bytes that the writer holds, where it tells them
+  -- the bytes that the writer holds, if it tells them
   pub written : Option (List ℕ)
   -- no put has failed
   pub is_open : Bool

@@ -8,7 +8,7 @@ pub record Written (at : ℕ) (bytes old new : List ℕ) : Type 0 where
   pub after : (x : ℕ) → at + length bytes ≤ x → slice_index new x ≡ slice_index old x
   pub size : length new ≡ max (length old) (at + length bytes)
 
--- the first bytes are left, all where there are no more
+-- the first bytes are left, all if there are no more
 abbrev pub CutTo : ℕ → List ℕ → List ℕ → Type 0
 CutTo len old new = new ≡ take len old
 

@@ -16,7 +16,7 @@ pub enum Part {
 ///
 /// A call on one part changes nothing that a read of the other gives.
 pub trait Drive {
-    /// The label, what a read gives where the drive tells it, and the count of faults.
+    /// The label, what a read gives if the drive tells it, and the count of faults.
     ghost state: { Self → DriveState };
 
     /// The number of bytes of a part.
@@ -42,7 +42,7 @@ pub trait Drive {
         ensures goes { Goes (state self.old) (state self.new) }
         ensures cause { HasCause (state self.old).faults (state self.new).faults result };
 
-    /// Shortens a part to this length; it changes nothing where the part isn't longer.
+    /// Shortens a part to this length; it changes nothing if the part isn't longer.
     fn cut(&mut self, part: Part, len: u64) -> Result<(), Failed>
         ensures cut { OnOk result (Reads part (CutTo len) (state self.old) (state self.new)) }
         ensures other { Reads part Anything (state self.old) (state self.new) }

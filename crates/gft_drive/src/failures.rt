@@ -18,7 +18,7 @@ pub struct FailAt {
     pub number: u32,
 }
 
-/// A call that reached a drive. The place and the length are in bytes, 0 where the kind has none.
+/// A call that reached a drive. The place and the length are in bytes, 0 if the kind has none.
 #[derive(Clone, Copy, Debug, PartialEq, Eq)]
 pub struct DriveCall {
     pub call: CallKind,

@@ -14,7 +14,7 @@ use std::path::Path;
 /// The drive over a file: the trusted edge, which tells no contents. Its label is its path's bytes.
 ///
 /// It holds the `Bytes` part alone: each call on the `Ranges` part fails. It touches no file before
-/// its first call, opens the file at each call, and makes it where it is absent.
+/// its first call, opens the file at each call, and makes it if it is absent.
 #[derive(Drop)]
 pub struct FileDrive<R: Files<File = File> + Alloc<A = Global> + Clone + Drop> {
     rt: R,
@@ -46,7 +46,7 @@ impl<R: Files<File = File> + Alloc<A = Global> + Clone + Drop> FileDrive<R> {
         }
     }
 
-    // Opens the file, and makes it where it is absent. A name that was made stays after a crash
+    // Opens the file, and makes it if it is absent. A name that was made stays after a crash
     // only once its folder is synced: so that is done before the first use.
     fn open(&mut self, part: Part) -> io::Result<File>
         ensures { self.new ≡ self.old }

@@ -107,7 +107,7 @@ impl MemoryDrive {
         self.calls.get(i).copied()
     }
 
-    // Counts a call and keeps it, and fails where it is to fail.
+    // Counts a call and keeps it, and fails if it is to fail.
     fn begin(&mut self, kind: CallKind, part: Part, at: u64, len: u64) -> Result<(), Failed>
         ensures label { self.new.label ≡ self.old.label }
         ensures image { self.new.image ≡ self.old.image }
@@ -229,7 +229,7 @@ fn copy_out(bytes: &[u8], at: u64, buf: &mut [u8]) -> usize
     count
 }
 
-// Writes within the room, with zeros between an earlier end and the place. It takes no memory where
+// Writes within the room, with zeros between an earlier end and the place. It takes no memory if
 // the room is reserved.
 fn overwrite(bytes: &mut Vec<u8>, room: u64, at: u64, new: &[u8]) -> Result<(), NoRoom>
     ensures written { OnOk result (Written at new.now bytes.old.items bytes.new.items) }
@@ -249,7 +249,7 @@ fn overwrite(bytes: &mut Vec<u8>, room: u64, at: u64, new: &[u8]) -> Result<(), 
     Ok(())
 }
 
-// Fills up with zeros to this length, where the bytes aren't longer.
+// Fills up with zeros to this length, if the bytes aren't longer.
 fn grow(bytes: &mut Vec<u8>, len: usize) -> Result<(), NoRoom>
     ensures size { OnOk result (length bytes.new.items ≡ max (length bytes.old.items) len) }
     ensures zeros { (x : ℕ) → slice_index bytes.new.items x ≡ slice_index bytes.old.items x }

@@ -1,6 +1,6 @@
 ghost use Rattle.std.specs.Prelude.{ℕ, List, Option, None};
 
-/// What the files of a drive's label are sent from, where that is known. It has no value at run
+/// What the files of a drive's label are sent from, if that is known. It has no value at run
 /// time: a caller that knows the source names it by a type, and learns that a stored file is equal.
 pub trait Origin {
     /// The source's bytes for a drive's label, or nothing.

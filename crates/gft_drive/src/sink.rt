@@ -7,7 +7,7 @@ use gft_base::Failed;
 
 /// Takes bytes in order. After a put that failed nothing more may be put.
 pub trait Sink {
-    /// The bytes that were put, where the sink tells them.
+    /// The bytes that were put, if the sink tells them.
     ghost written: { Self → Option (List ℕ) };
 
     /// No put has failed.
@@ -16,7 +16,7 @@ pub trait Sink {
     /// How often a put failed.
     ghost faults: { Self → ℕ };
 
-    /// Puts all bytes; where it fails, a part of them from the front.
+    /// Puts all bytes; if it fails, a part of them from the front.
     fn put(&mut self, bytes: &[u8]) -> Result<(), Failed>
         requires open { is_open self.old }
         ensures put { MatchResult result

@@ -7,7 +7,7 @@ use gft_base::Failed;
 
 /// Bytes that are read in order.
 pub trait Source {
-    /// The bytes that are left, where the source tells them.
+    /// The bytes that are left, if the source tells them.
     ghost left: { Self → Option (List ℕ) };
 
     /// How often a read failed.

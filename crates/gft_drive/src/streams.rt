@@ -101,7 +101,7 @@ impl<W: Write + Drop> Sink for WriteSink<W> {
     }
 }
 
-// Reads, and tries again where it was interrupted.
+// Reads, and tries again if it was interrupted.
 fn read_once<R: Read>(reader: &mut R, buf: &mut [u8]) -> io::Result<usize>
     ensures bound { ReadsAtMost result buf.new }
     ensures bytes { ReadConsumes (R.remaining reader.old) (R.remaining reader.new) result buf.new }
@@ -115,7 +115,7 @@ fn read_once<R: Read>(reader: &mut R, buf: &mut [u8]) -> io::Result<usize>
     Err(io::Error::from(ErrorKind::Interrupted))
 }
 
-// Writes all bytes and flushes; where it fails, a part of them is written from the front.
+// Writes all bytes and flushes; if it fails, a part of them is written from the front.
 fn write_whole<W: Write>(writer: &mut W, bytes: &[u8]) -> io::Result<()>
     ensures { MatchResult result
         (λ _. Appends (W.contents writer.old) (W.contents writer.new) bytes.now)

@@ -1,6 +1,7 @@
 -- What a block that is spelled out brings.
 use Rattle.std.proofs.Common.{◌≡◌, ℕ, ◌+◌, ◌<◌, ◌^◌, false, cond, List, [], ◌∷◌, ◌++◌, length, drop, refl, ap, ◌∙◌, subst, add-zero}
 use Rattle.std.proofs.Math.Seq.{drop-append_seam}
+use Rattle.gft_eblock.specs.declared.TheConstants.{HEADER_LEN}
 use Rattle.gft_eblock.specs.declared.header.Header.{Header}
 use Rattle.gft_eblock.specs.Arrival.{Arrival, Eof}
 use Rattle.gft_eblock.specs.Header.{is_bad, is_eod, is_eof}
@@ -9,7 +10,7 @@ use Rattle.gft_eblock.specs.Arrivals.{data_at, data_then, end_or, good_block, bl
 use Rattle.gft_eblock.proofs.BlockLemmas.{blocks_from-append, data_then-append, data_then-zero}
 use Rattle.gft_eblock.proofs.SpellingLemmas.{header_of-spelling}
 
-length-spelling : (h : Header) → length (spelling h) ≡ 17
+length-spelling : (h : Header) → length (spelling h) ≡ HEADER_LEN
 unfolding spelling
 length-spelling h = refl
 
@@ -23,8 +24,8 @@ unfolding good_block
 good_whole shift h bytes rest next len = ap (λ tail. cond (is_eof h.flags) (Eof h.offset ∷ []) [] ++ tail) (whole_data (shift + h.offset) h.count bytes rest (end_or (is_eod h.flags) next) len)
 
 pub block_law : (shift place : ℕ) (h : Header) (bytes rest : List ℕ) → h.count < 2 ^ 64 → h.offset < 2 ^ 64 → length bytes ≡ h.count → is_bad shift h ≡ false → blocks_from shift place (spelling h ++ (bytes ++ rest))
-    ≡ cond (is_eof h.flags) (Eof h.offset ∷ []) [] ++ (data_at (shift + h.offset) bytes ++ end_or (is_eod h.flags) (blocks_from shift (place + 17 + h.count) rest))
+    ≡ cond (is_eof h.flags) (Eof h.offset ∷ []) [] ++ (data_at (shift + h.offset) bytes ++ end_or (is_eod h.flags) (blocks_from shift (place + HEADER_LEN + h.count) rest))
 block_law shift place h bytes rest count_fits offset_fits len good =
     let read = header_of-spelling h count_fits offset_fits in
     let behind : drop h.count (bytes ++ rest) ≡ rest = subst (λ n. drop n (bytes ++ rest) ≡ rest) len (drop-append_seam bytes rest) in
-    blocks_from-append shift place (spelling h) (bytes ++ rest) (length-spelling h) ∙ rw (read, good, behind) (good_whole shift h bytes rest (blocks_from shift (place + 17 + h.count) rest) len)
+    blocks_from-append shift place (spelling h) (bytes ++ rest) (length-spelling h) ∙ rw (read, good, behind) (good_whole shift h bytes rest (blocks_from shift (place + HEADER_LEN + h.count) rest) len)

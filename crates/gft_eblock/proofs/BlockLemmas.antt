@@ -2,6 +2,7 @@
 use Rattle.std.proofs.Common.{◌≡◌, ℕ, zero, suc, ◌+◌, ◌-◌, ◌<◌, ◌≤◌, cond, ltb, List, [], ◌∷◌, ◌++◌, length, take, drop, append_assoc, refl, sym, ap, ◌∙◌, subst, arith, length-drop, length-append, add-zero, inl, inr}
 use Rattle.std.proofs.Math.Seq.{take-append_seam, drop-append_seam, take-append-add}
 use Rattle.std.proofs.lemmas.Bool.{cases_lt, lt-ltb, le-ltb}
+use Rattle.gft_eblock.specs.declared.TheConstants.{HEADER_LEN}
 use Rattle.gft_eblock.specs.Spelling.{header_of}
 use Rattle.gft_eblock.specs.Arrival.{Arrival, At}
 use Rattle.gft_eblock.specs.Arrivals.{data_at, data_then, block_then, blocks_within, blocks_from}
@@ -34,36 +35,36 @@ data_then-zero offset later next = rw (le-ltb (length later) 0 (omega arith))
 -- more blocks than there are bytes are never read
 within_enough : (m n shift place : ℕ) (bytes : List ℕ) → length bytes ≤ m → length bytes ≤ n → blocks_within m shift place bytes ≡ blocks_within n shift place bytes
 within_enough zero zero shift place bytes le_m le_n = refl
-within_enough zero (suc n) shift place bytes le_m le_n = rw (lt-ltb (length bytes) 17 (omega arith))
-within_enough (suc m) zero shift place bytes le_m le_n = rw (lt-ltb (length bytes) 17 (omega arith))
+within_enough zero (suc n) shift place bytes le_m le_n = rw (lt-ltb (length bytes) HEADER_LEN (omega arith))
+within_enough (suc m) zero shift place bytes le_m le_n = rw (lt-ltb (length bytes) HEADER_LEN (omega arith))
 within_enough (suc m) (suc n) shift place bytes le_m le_n =
-    let h = header_of (take 17 bytes) in
-    let rest = drop h.count (drop 17 bytes) in
-    let short : length rest ≤ length bytes - 17 = omega (arith, length-drop h.count (drop 17 bytes), length-drop 17 bytes) in
-    ap (λ next. cond (ltb (length bytes) 17) [] (block_then shift place h (drop 17 bytes) next))
-    (within_enough m n shift (place + 17 + h.count) rest (omega arith) (omega arith))
+    let h = header_of (take HEADER_LEN bytes) in
+    let rest = drop h.count (drop HEADER_LEN bytes) in
+    let short : length rest ≤ length bytes - HEADER_LEN = omega (arith, length-drop h.count (drop HEADER_LEN bytes), length-drop HEADER_LEN bytes) in
+    ap (λ next. cond (ltb (length bytes) HEADER_LEN) [] (block_then shift place h (drop HEADER_LEN bytes) next))
+    (within_enough m n shift (place + HEADER_LEN + h.count) rest (omega arith) (omega arith))
 
 -- less than a header brings nothing
-pub blocks_from-short : (shift place : ℕ) (bytes : List ℕ) → length bytes < 17 → blocks_from shift place bytes ≡ []
+pub blocks_from-short : (shift place : ℕ) (bytes : List ℕ) → length bytes < HEADER_LEN → blocks_from shift place bytes ≡ []
 unfolding blocks_from
 blocks_from-short shift place [] lt = refl
-blocks_from-short shift place (b ∷ bytes) lt = rw (lt-ltb (length (b ∷ bytes)) 17 lt)
+blocks_from-short shift place (b ∷ bytes) lt = rw (lt-ltb (length (b ∷ bytes)) HEADER_LEN lt)
 
-blocks_from-take : (shift place : ℕ) (bytes : List ℕ) → 17 ≤ length bytes → blocks_from shift place bytes ≡ (let h = header_of (take 17 bytes) in block_then shift place h (drop 17 bytes) (blocks_from shift (place + 17 + h.count) (drop h.count (drop 17 bytes))))
+blocks_from-take : (shift place : ℕ) (bytes : List ℕ) → HEADER_LEN ≤ length bytes → blocks_from shift place bytes ≡ (let h = header_of (take HEADER_LEN bytes) in block_then shift place h (drop HEADER_LEN bytes) (blocks_from shift (place + HEADER_LEN + h.count) (drop h.count (drop HEADER_LEN bytes))))
 unfolding blocks_from
 blocks_from-take shift place [] le = absurd (omega arith)
 blocks_from-take shift place (b ∷ bytes) le =
     let whole = b ∷ bytes in
-    let h = header_of (take 17 whole) in
-    let rest = drop h.count (drop 17 whole) in
-    let short : length rest ≤ length bytes = omega (arith, length-drop h.count (drop 17 whole), length-drop 17 whole) in
-    rw (le-ltb (length whole) 17 le)
-    (ap (λ next. block_then shift place h (drop 17 whole) next)
-    (within_enough (length bytes) (length rest) shift (place + 17 + h.count) rest short (omega arith)))
+    let h = header_of (take HEADER_LEN whole) in
+    let rest = drop h.count (drop HEADER_LEN whole) in
+    let short : length rest ≤ length bytes = omega (arith, length-drop h.count (drop HEADER_LEN whole), length-drop HEADER_LEN whole) in
+    rw (le-ltb (length whole) HEADER_LEN le)
+    (ap (λ next. block_then shift place h (drop HEADER_LEN whole) next)
+    (within_enough (length bytes) (length rest) shift (place + HEADER_LEN + h.count) rest short (omega arith)))
 
 -- a header and what follows it
-pub blocks_from-append : (shift place : ℕ) (header later : List ℕ) → length header ≡ 17 → blocks_from shift place (header ++ later) ≡ block_then shift place (header_of header) later (blocks_from shift (place + 17 + (header_of header).count) (drop (header_of header).count later))
+pub blocks_from-append : (shift place : ℕ) (header later : List ℕ) → length header ≡ HEADER_LEN → blocks_from shift place (header ++ later) ≡ block_then shift place (header_of header) later (blocks_from shift (place + HEADER_LEN + (header_of header).count) (drop (header_of header).count later))
 blocks_from-append shift place header later len =
-    let front : take 17 (header ++ later) ≡ header = subst (λ n. take n (header ++ later) ≡ header) len (take-append_seam header later) in
-    let back : drop 17 (header ++ later) ≡ later = subst (λ n. drop n (header ++ later) ≡ later) len (drop-append_seam header later) in
+    let front : take HEADER_LEN (header ++ later) ≡ header = subst (λ n. take n (header ++ later) ≡ header) len (take-append_seam header later) in
+    let back : drop HEADER_LEN (header ++ later) ≡ later = subst (λ n. drop n (header ++ later) ≡ later) len (drop-append_seam header later) in
     blocks_from-take shift place (header ++ later) (omega (arith, length-append header later)) ∙ rw (front, back)

@@ -2,6 +2,7 @@
 use Rattle.std.proofs.Common.{◌≡◌, ℕ, zero, suc, ◌+◌, ◌-◌, ◌<◌, ◌≤◌, Bool, true, false, cond, List, [], ◌∷◌, ◌++◌, length, take, drop, ◌⊎◌, inl, inr, append_assoc, append-nil, refl, sym, ap, ◌∙◌, subst, arith, length-append, length-drop}
 use Rattle.std.proofs.lemmas.Bool.{cases_lt, lt-ltb, le-ltb}
 use Rattle.std.proofs.lemmas.List.{take_all, take-append-le, take-append-drop, drop-append-le, length-take-le}
+use Rattle.gft_eblock.specs.declared.TheConstants.{HEADER_LEN}
 use Rattle.gft_eblock.specs.Arrival.{Arrival, At, Eof, Eod, Bad}
 use Rattle.gft_eblock.specs.declared.header.Header.{Header}
 use Rattle.gft_eblock.specs.Header.{is_bad, is_eod, is_eof}
@@ -125,17 +126,17 @@ Continues-block_then shift place h bytes later next next' goes_on =
       | false ↦ Continues-good_block shift h bytes later next next' goes_on
     ]
 
-Continues-short : (shift place : ℕ) (bytes later : List ℕ) → length bytes < 17 → Continues (blocks_from shift place bytes) (blocks_from shift place (bytes ++ later))
+Continues-short : (shift place : ℕ) (bytes later : List ℕ) → length bytes < HEADER_LEN → Continues (blocks_from shift place bytes) (blocks_from shift place (bytes ++ later))
 Continues-short shift place bytes later lt =
     subst (λ xs. Continues xs (blocks_from shift place (bytes ++ later))) (sym (blocks_from-short shift place bytes lt)) (Continues-nil (blocks_from shift place (bytes ++ later)))
 
 -- a header stands in the bytes, and the rest goes on behind its block
-Continues-header : (shift place : ℕ) (header tail later : List ℕ) → length header ≡ 17
-    → Continues (blocks_from shift (place + 17 + (header_of header).count) (drop (header_of header).count tail)) (blocks_from shift (place + 17 + (header_of header).count) (drop (header_of header).count tail ++ later))
+Continues-header : (shift place : ℕ) (header tail later : List ℕ) → length header ≡ HEADER_LEN
+    → Continues (blocks_from shift (place + HEADER_LEN + (header_of header).count) (drop (header_of header).count tail)) (blocks_from shift (place + HEADER_LEN + (header_of header).count) (drop (header_of header).count tail ++ later))
     → Continues (blocks_from shift place (header ++ tail)) (blocks_from shift place (header ++ tail ++ later))
 Continues-header shift place header tail later len rest =
     let h = header_of header in
-    let behind = place + 17 + h.count in
+    let behind = place + HEADER_LEN + h.count in
     let first = blocks_from shift behind (drop h.count tail) in
     let second = blocks_from shift behind (drop h.count (tail ++ later)) in
     subst (λ xs. Continues xs (blocks_from shift place (header ++ tail ++ later))) (sym (blocks_from-append shift place header tail len))
@@ -146,16 +147,16 @@ Continues-header shift place header tail later len rest =
 pub Continues-blocks : (most shift place : ℕ) (bytes later : List ℕ) → length bytes ≤ most → Continues (blocks_from shift place bytes) (blocks_from shift place (bytes ++ later))
 Continues-blocks zero shift place bytes later enough = Continues-short shift place bytes later (omega arith)
 Continues-blocks (suc most) shift place bytes later enough =
-    elim (cases_lt (length bytes) 17) [
+    elim (cases_lt (length bytes) HEADER_LEN) [
       | inl lt ↦ Continues-short shift place bytes later lt
       | inr le ↦
-          let header = take 17 bytes in
-          let tail = drop 17 bytes in
+          let header = take HEADER_LEN bytes in
+          let tail = drop HEADER_LEN bytes in
           let h = header_of header in
-          let small : length (drop h.count tail) ≤ most = omega (arith, length-drop h.count tail, length-drop 17 bytes) in
-          subst (λ b. Continues (blocks_from shift place b) (blocks_from shift place (b ++ later))) (take-append-drop 17 bytes)
-          (Continues-header shift place header tail later (length-take-le 17 bytes le)
-          (Continues-blocks most shift (place + 17 + h.count) (drop h.count tail) later small))
+          let small : length (drop h.count tail) ≤ most = omega (arith, length-drop h.count tail, length-drop HEADER_LEN bytes) in
+          subst (λ b. Continues (blocks_from shift place b) (blocks_from shift place (b ++ later))) (take-append-drop HEADER_LEN bytes)
+          (Continues-header shift place header tail later (length-take-le HEADER_LEN bytes le)
+          (Continues-blocks most shift (place + HEADER_LEN + h.count) (drop h.count tail) later small))
     ]
 
 -- ---- what the laws say

@@ -1,8 +1,9 @@
 -- How what is to come changes as a channel takes bytes.
-use Rattle.std.proofs.Common.{◌≡◌, ℕ, ◌+◌, ◌-◌, ◌<◌, ◌≤◌, Bool, true, false, cond, ltb, ◌&&◌, List, [], ◌∷◌, ◌++◌, length, take, drop, Option, Some, None, Result, Ok, Err, IsOk, OnOk, append_assoc, refl, sym, ap, ◌∙◌, subst, arith, length-append, length-drop, is_some, add-zero}
+use Rattle.std.proofs.Common.{◌≡◌, ℕ, ◌+◌, ◌-◌, ◌<◌, ◌≤◌, Bool, true, false, cond, ltb, ◌&&◌, List, [], ◌∷◌, ◌++◌, length, take, drop, Option, Some, None, append_assoc, refl, sym, ap, ◌∙◌, subst, arith, length-append, length-drop, is_some, add-zero}
 use Rattle.std.proofs.Math.Seq.{drop-append-add, take-add}
 use Rattle.std.proofs.lemmas.List.{length-take-le, take_all}
 use Rattle.std.proofs.lemmas.Bool.{lt-ltb, ltb-false, or_parts}
+use Rattle.gft_eblock.specs.declared.TheConstants.{HEADER_LEN}
 use Rattle.gft_eblock.specs.declared.bad_block.BadBlock.{BadBlock}
 use Rattle.gft_eblock.specs.declared.event.Event.{Event}
 use Rattle.gft_eblock.specs.declared.event.Event.TheVariants as event
@@ -18,6 +19,7 @@ use Rattle.gft_eblock.specs.Arrivals.{data_at, data_then, end_or, refusal, good_
 use Rattle.gft_eblock.specs.Channel.{Reader, HasFailed, refusal_of, to_come_in, to_come, wanted_in, IsDoneState, IsSoundState}
 use Rattle.gft_eblock.specs.Feeding.{Advances, Fails, IsEventOf, event_arrivals}
 use Rattle.gft_eblock.proofs.BlockLemmas.{data_then-append, data_then-zero, blocks_from-append}
+use Rattle.gft_eblock.proofs.ToComeLemmas.{to_come-nothing}
 
 -- ---- data
 
@@ -49,11 +51,11 @@ header_more shift taken bytes front later le =
     rw (append_assoc bytes front later, place)
 
 -- the rest of a header
-pub header_whole : (shift taken : ℕ) (bytes front later : List ℕ) → length bytes ≤ taken → length (bytes ++ front) ≡ 17 → to_come_in Header shift taken bytes (front ++ later)
+pub header_whole : (shift taken : ℕ) (bytes front later : List ℕ) → length bytes ≤ taken → length (bytes ++ front) ≡ HEADER_LEN → to_come_in Header shift taken bytes (front ++ later)
     ≡ block_then shift (taken - length bytes) (header_of (bytes ++ front)) later (blocks_from shift (taken + length front + (header_of (bytes ++ front)).count) (drop (header_of (bytes ++ front)).count later))
 unfolding to_come_in
 header_whole shift taken bytes front later le len =
-    let place : taken - length bytes + 17 ≡ taken + length front = omega (arith, length-append bytes front) in
+    let place : taken - length bytes + HEADER_LEN ≡ taken + length front = omega (arith, length-append bytes front) in
     ap (λ b. blocks_from shift (taken - length bytes) b) (sym (append_assoc bytes front later))
     ∙ blocks_from-append shift (taken - length bytes) (bytes ++ front) later len ∙ rw place
 
@@ -94,30 +96,36 @@ good_data shift taken h later no_eof = rw no_eof
 
 -- ---- what a call does
 
+-- where no event came, nothing waits
+pub quiet_of : (event : Option Event) (r : Reader) → IsEventOf event r.state r.header → event ≡ None → to_come r [] ≡ []
+quiet_of event r is none = to_come-nothing r (subst (λ (e : Option Event). IsEventOf e r.state r.header) none is)
+
 -- the piece ends inside the header
-pub header_waits : (shift taken taken' used : ℕ) (bytes bytes' piece : List ℕ) → length bytes ≤ taken → length bytes + used < 17 → used ≤ length piece → bytes' ≡ bytes ++ take used piece → taken' ≡ taken + used
+pub header_waits : (shift taken taken' used : ℕ) (bytes bytes' piece : List ℕ) → length bytes ≤ taken → length bytes + used < HEADER_LEN → used ≤ length piece → bytes' ≡ bytes ++ take used piece → taken' ≡ taken + used
     → Advances (record { shift = shift; taken = taken; header = bytes; state = Header }) piece (record { used = used; event = None }) (record { shift = shift; taken = taken'; header = bytes'; state = Header })
 header_waits shift taken taken' used bytes bytes' piece le short fits grown sum =
     let len : length (take used piece) ≡ used = length-take-le used piece fits in
+    let waits : 0 < HEADER_LEN - length bytes' = rw grown (omega (arith, len, length-append bytes (take used piece))) in
     record {
       used = fits;
       taken = sum;
+      quiet = λ none. to_come-nothing (record { shift = shift; taken = taken'; header = bytes'; state = Header }) waits;
       carried = λ later. rw (grown, sum) (subst (λ n. to_come_in Header shift taken bytes (take used piece ++ later) ≡ to_come_in Header shift (taken + n) (bytes ++ take used piece) later) len
           (header_more shift taken bytes (take used piece) later le));
-      event = rw grown (omega (arith, len, length-append bytes (take used piece)));
+      event = waits;
     }
 
 -- the header ends in the piece
-whole_at : (shift taken used : ℕ) (bytes piece later : List ℕ) (h : header.Header) → length bytes ≤ taken → used ≤ length piece → length bytes + used ≡ 17 → h ≡ header_of (bytes ++ take used piece)
+whole_at : (shift taken used : ℕ) (bytes piece later : List ℕ) (h : header.Header) → length bytes ≤ taken → used ≤ length piece → length bytes + used ≡ HEADER_LEN → h ≡ header_of (bytes ++ take used piece)
     → to_come_in Header shift taken bytes (take used piece ++ later) ≡ block_then shift (taken - length bytes) h later (blocks_from shift (taken + used + h.count) (drop h.count later))
 whole_at shift taken used bytes piece later h le fits full is =
     let len : length (take used piece) ≡ used = length-take-le used piece fits in
-    let whole : length (bytes ++ take used piece) ≡ 17 = omega (arith, length-append bytes (take used piece)) in
+    let whole : length (bytes ++ take used piece) ≡ HEADER_LEN = omega (arith, length-append bytes (take used piece)) in
     rw is (subst (λ n. to_come_in Header shift taken bytes (take used piece ++ later)
     ≡ block_then shift (taken - length bytes) (header_of (bytes ++ take used piece)) later (blocks_from shift (taken + n + (header_of (bytes ++ take used piece)).count) (drop (header_of (bytes ++ take used piece)).count later))) len
     (header_whole shift taken bytes (take used piece) later le whole))
 
-pub header_opens : (shift taken taken' used : ℕ) (bytes piece : List ℕ) (h : header.Header) (event : Option Event) (state : State) → length bytes ≤ taken → used ≤ length piece → length bytes + used ≡ 17 → h ≡ header_of (bytes ++ take used piece) → taken' ≡ taken + used
+pub header_opens : (shift taken taken' used : ℕ) (bytes piece : List ℕ) (h : header.Header) (event : Option Event) (state : State) → length bytes ≤ taken → used ≤ length piece → length bytes + used ≡ HEADER_LEN → h ≡ header_of (bytes ++ take used piece) → taken' ≡ taken + used
     → is_bad shift h ≡ false
     → ((taken : ℕ) (later : List ℕ) → good_block shift h later (blocks_from shift (taken + h.count) (drop h.count later)) ≡ event_arrivals event ++ to_come_in state shift taken [] later)
     → IsEventOf event state []
@@ -128,6 +136,7 @@ header_opens shift taken taken' used bytes piece h event state le fits full is s
       taken = sum;
       carried = λ later. rw sum (whole_at shift taken used bytes piece later h le fits full is ∙ rw good (opened (taken + used) later));
       event = is_event;
+      quiet = quiet_of event (record { shift = shift; taken = taken'; header = []; state = state }) is_event;
     }
 
 -- a failed channel gives its refusal
@@ -135,7 +144,7 @@ pub failed_stays : (shift taken : ℕ) (bytes later : List ℕ) (bad : BadBlock)
 unfolding to_come_in
 failed_stays shift taken bytes later bad = refl
 
-pub header_fails : (shift taken taken' used : ℕ) (bytes bytes' piece : List ℕ) (h : header.Header) (bad : BadBlock) → length bytes ≤ taken → used ≤ length piece → length bytes + used ≡ 17 → h ≡ header_of (bytes ++ take used piece)
+pub header_fails : (shift taken taken' used : ℕ) (bytes bytes' piece : List ℕ) (h : header.Header) (bad : BadBlock) → length bytes ≤ taken → used ≤ length piece → length bytes + used ≡ HEADER_LEN → h ≡ header_of (bytes ++ take used piece)
     → taken' ≡ taken + used → is_bad shift h ≡ true → refusal_of bad ≡ refusal (taken - length bytes) h
     → Fails (record { shift = shift; taken = taken; header = bytes; state = Header }) piece bad (record { shift = shift; taken = taken'; header = bytes'; state = Failed bad })
 header_fails shift taken taken' used bytes bytes' piece h bad le fits full is sum refused bad_is =
@@ -154,7 +163,7 @@ header_fails shift taken taken' used bytes bytes' piece h bad le fits full is su
 pub eod_told : (shift taken : ℕ) (bytes piece : List ℕ) → Advances (record { shift = shift; taken = taken; header = bytes; state = EodWaits }) piece (record { used = 0; event = Some event.Eod }) (record { shift = shift; taken = taken; header = bytes; state = Done })
 unfolding to_come_in
 eod_told shift taken bytes piece =
-    record { used = omega arith; taken = sym (add-zero taken); carried = λ later. refl; event = tt }
+    record { used = omega arith; taken = sym (add-zero taken); carried = λ later. refl; event = tt; quiet = λ none. cc none }
 
 -- ---- one step after others
 
@@ -166,6 +175,7 @@ advance_more old mid new piece used step fits sum carried more =
       taken = omega (arith, more.taken);
       carried = λ later. rw (take-add used step.used piece, append_assoc) (carried (take step.used (drop used piece) ++ later) ∙ more.carried later);
       event = more.event;
+      quiet = more.quiet;
     }
 
 pub fails_more : (old mid new : Reader) (piece : List ℕ) (used : ℕ) (bad : BadBlock) → used ≤ length piece → mid.taken ≡ old.taken + used → ((later : List ℕ) → to_come old (take used piece ++ later) ≡ to_come mid later)
@@ -217,11 +227,7 @@ failed_again old piece bad failed sound =
 
 -- ---- what a channel knows inside a header
 
-pub header_is_short : (state : State) (taken : ℕ) (bytes : List ℕ) → state ≡ Header → IsSoundState state taken bytes → (length bytes < 17) × (length bytes ≤ taken)
+pub header_is_short : (state : State) (taken : ℕ) (bytes : List ℕ) → state ≡ Header → IsSoundState state taken bytes → (length bytes < HEADER_LEN) × (length bytes ≤ taken)
 header_is_short state taken bytes in_header sound =
     let P : State → Type 0 = λ s. IsSoundState s taken bytes in
     subst P in_header sound
-
-pub at_ok : {T E : Type 0} → (r : Result T E) (P : Type 0) → IsOk r → OnOk r P → P
-at_ok (Ok x) P ok h = h
-at_ok (Err e) P ok h = cc

@@ -1,5 +1,7 @@
 -- What the bytes of one data connection tell, as one list: the bytes are split into blocks from the front.
-use Rattle.std.specs.Prelude.{ℕ, zero, suc, ◌+◌, Bool, if◌then◌else◌, nat_lt, List, [], ◌∷◌, ◌++◌, length, take, drop}
+use Rattle.std.specs.Prelude.{ℕ, zero, suc, ◌+◌, Bool, if◌then◌else◌, nat_lt}
+use Rattle.std.specs.Prelude.{List, [], ◌∷◌, ◌++◌, length, take, drop}
+use Rattle.gft_eblock.specs.declared.TheConstants.{HEADER_LEN}
 use Rattle.gft_eblock.specs.Arrival.{Arrival, At, Eof, Eod, Bad, Refusal}
 use Rattle.gft_eblock.specs.declared.header.Header.{Header}
 use Rattle.gft_eblock.specs.Header.{is_bad, is_eod, is_eof}
@@ -12,7 +14,8 @@ data_at offset (value ∷ values) = At offset value ∷ data_at (offset + 1) val
 
 -- the first `left` of the bytes arrive, and behind the last of them what follows
 unfoldable pub data_then : ℕ → ℕ → List ℕ → List Arrival → List Arrival
-data_then offset left bytes next = data_at offset (take left bytes) ++ (if nat_lt (length bytes) left then [] else next)
+data_then offset left bytes next =
+    data_at offset (take left bytes) ++ (if nat_lt (length bytes) left then [] else next)
 
 -- an EOD ends the stream
 abbrev pub end_or : Bool → List Arrival → List Arrival
@@ -25,22 +28,26 @@ refusal place h = record { place = place; flags = h.flags; count = h.count; offs
 -- an EOF is told first, then the data; then an EOD, or what follows the block
 unfoldable pub good_block : ℕ → Header → List ℕ → List Arrival → List Arrival
 good_block shift h bytes next =
-    (if is_eof h.flags then Eof h.offset ∷ [] else []) ++ data_then (shift + h.offset) h.count bytes (end_or (is_eod h.flags) next)
+    (if is_eof h.flags then Eof h.offset ∷ [] else [])
+    ++ data_then (shift + h.offset) h.count bytes (end_or (is_eod h.flags) next)
 
 -- the block that `place` bytes of the stream stand before, and what follows it
 abbrev pub block_then : ℕ → ℕ → Header → List ℕ → List Arrival → List Arrival
-block_then shift place h bytes next = if is_bad shift h then Bad (refusal place h) ∷ [] else good_block shift h bytes next
+block_then shift place h bytes next =
+    if is_bad shift h then Bad (refusal place h) ∷ [] else good_block shift h bytes next
 
 -- up to so many blocks
 abbrev pub blocks_within : ℕ → ℕ → ℕ → List ℕ → List Arrival
 blocks_within zero shift place bytes = []
 blocks_within (suc most) shift place bytes =
-    let h = header_of (take 17 bytes) in
-    if nat_lt (length bytes) 17
+    let h = header_of (take HEADER_LEN bytes) in
+    if nat_lt (length bytes) HEADER_LEN
     then []
-    else block_then shift place h (drop 17 bytes) (blocks_within most shift (place + 17 + h.count) (drop h.count (drop 17 bytes)))
+    else block_then shift place h (drop HEADER_LEN bytes)
+    (blocks_within most shift (place + HEADER_LEN + h.count) (drop h.count (drop HEADER_LEN bytes)))
 
--- the arrivals of the blocks that `place` bytes of the stream stand before; there are no more blocks than bytes
+-- the arrivals of the blocks that `place` bytes of the stream stand before; there are no more blocks than
+-- bytes
 unfoldable pub blocks_from : ℕ → ℕ → List ℕ → List Arrival
 blocks_from shift place bytes = blocks_within (length bytes) shift place bytes
 

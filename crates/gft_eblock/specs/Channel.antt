@@ -3,7 +3,7 @@ use Rattle.std.specs.Prelude.{◌≡◌, ℕ, ◌+◌, ◌-◌, ◌<◌, ◌≤�
 use Rattle.gft_base.specs.declared.TheConstants.{LIMIT}
 use Rattle.gft_eblock.specs.Arrival.{Arrival, Eod, Bad, Refusal}
 use Rattle.gft_eblock.specs.declared.bad_block.BadBlock.{BadBlock}
-use Rattle.gft_eblock.specs.declared.TheConstants.{MAX_BYTES}
+use Rattle.gft_eblock.specs.declared.TheConstants.{HEADER_LEN, MAX_BYTES}
 use Rattle.gft_eblock.specs.declared.channel.State.{State}
 use Rattle.gft_eblock.specs.declared.channel.State.TheVariants.{Header, Data, EodWaits, Done, Failed}
 use Rattle.gft_eblock.specs.Arrivals.{data_then, end_or, blocks_from}
@@ -51,7 +51,7 @@ IsReading (Data offset left eod) = Unit {0}
 IsReading _ = ⊥
 
 abbrev pub wanted_in : State → List ℕ → ℕ
-wanted_in Header header = 17 - length header
+wanted_in Header header = HEADER_LEN - length header
 wanted_in (Data offset left eod) header = left
 wanted_in _ header = 0
 
@@ -60,10 +60,10 @@ abbrev pub wanted : Reader → ℕ
 wanted r = wanted_in r.state r.header
 
 abbrev pub IsSoundState : State → ℕ → List ℕ → Type 0
-IsSoundState Header taken header = (length header < 17) × (length header ≤ taken)
+IsSoundState Header taken header = (length header < HEADER_LEN) × (length header ≤ taken)
 IsSoundState (Data offset left eod) taken header = (0 < left) × (offset + left ≤ LIMIT) × (header ≡ [])
-IsSoundState (Failed bad) taken header = (header ≡ []) × (taken ≡ bad.place + 17)
+IsSoundState (Failed bad) taken header = (header ≡ []) × (taken ≡ bad.place + HEADER_LEN)
 IsSoundState _ taken header = header ≡ []
 
-abbrev pub IsSound : Reader → Type 0
-IsSound r = (r.shift ≤ LIMIT) × (r.taken ≤ MAX_BYTES) × IsSoundState r.state r.taken r.header
+abbrev pub IsSoundReader : Reader → Type 0
+IsSoundReader r = (r.shift ≤ LIMIT) × (r.taken ≤ MAX_BYTES) × IsSoundState r.state r.taken r.header

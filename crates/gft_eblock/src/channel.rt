@@ -9,22 +9,25 @@
 //! | | a header with EOD alone | `Done` |
 //! | | a header with none of them, or EOF | `Header` |
 //! | | a bad header | `Failed` |
-//! | `Data` | the block's last byte | `EodWaits` where its header had EOD, else `Header` |
+//! | `Data` | the block's last byte | `EodWaits` if its header had EOD, else `Header` |
 //! | `EodWaits` | the EOD, once told | `Done` |
 
-ghost use Rattle.std.specs.Prelude.{◌≡◌, ℕ, ◌+◌, ◌^◌, ◌<◌, ◌≤◌, ◌↔◌, List, [], ◌∷◌, ◌++◌, length, take, drop, IsTrue, IsNone, IsErr, IfOk, IfErr, Some, Err, false};
+ghost use Rattle.std.specs.Prelude.{◌≡◌, ℕ, ◌+◌, ◌-◌, ◌^◌, ◌<◌, ◌≤◌, ◌↔◌, min, false};
+ghost use Rattle.std.specs.Prelude.{List, [], ◌∷◌, ◌++◌, length, take, drop};
+ghost use Rattle.std.specs.Prelude.{IsTrue, IsNone, IsErr, IfOk, IfErr, Some, Err};
 ghost use Rattle.gft_eblock.specs.Arrival.{Bad, Refusal};
 ghost use Rattle.gft_eblock.specs.declared.bad_block.BadBlock.{BadBlock};
 ghost use Rattle.gft_eblock.specs.Header.{is_bad};
 ghost use Rattle.gft_eblock.specs.Arrivals.{arrivals, blocks_from, good_block};
-ghost use Rattle.gft_eblock.specs.Channel.{HasFailed, IsDone, IsReading, IsSoundState, to_come, to_come_in, wanted};
+ghost use Rattle.gft_eblock.specs.Channel.{HasFailed, IsDone, IsReading, IsSoundState};
+ghost use Rattle.gft_eblock.specs.Channel.{to_come, to_come_in, wanted};
 ghost use Rattle.gft_eblock.specs.Feeding.{Advances, Fails, IsEventOf, event_arrivals};
 
-use crate::MAX_BYTES;
 use crate::bad_block::BadBlock;
 use crate::event::{Event, Step};
 use crate::flags::Flags;
-use crate::header::{HEADER_LEN, Header, decode};
+use crate::header::{Header, decode};
+use crate::{HEADER_LEN, MAX_BYTES};
 use arrayvec::ArrayVec;
 use gft_base::LIMIT;
 use std::marker::Model;
@@ -51,12 +54,12 @@ pub enum State {
 pub struct Channel {
     shift: u64,
     taken: u64,
-    header: ArrayVec<u8, 17>,
+    header: ArrayVec<u8, HEADER_LEN>,
     state: State,
 }
 
 impl Model for Channel {
-    ghost use Rattle.gft_eblock.specs.Channel.{Reader, IsSound};
+    ghost use Rattle.gft_eblock.specs.Channel.{Reader, IsSoundReader};
 
     ghost Value = { Reader };
 
@@ -64,7 +67,8 @@ impl Model for Channel {
         record { shift = c.shift; taken = c.taken; header = c.header.items; state = c.state } };
 
     ghost invariant = { λ c.
-        IsSound (record { shift = c.shift; taken = c.taken; header = c.header.items; state = c.state }) };
+        IsSoundReader
+        (record { shift = c.shift; taken = c.taken; header = c.header.items; state = c.state }) };
 }
 
 impl Channel {
@@ -72,7 +76,7 @@ impl Channel {
     pub fn new(shift: u64) -> Self
         requires { shift ≤ LIMIT }
         ensures taken { result.taken ≡ 0 }
-        ensures wanted { wanted result ≡ 17 }
+        ensures wanted { wanted result ≡ HEADER_LEN }
         ensures not_done { ¬ IsDone result }
         ensures to_come { (stream : List ℕ) → to_come result stream ≡ arrivals shift stream }
     {
@@ -99,7 +103,7 @@ impl Channel {
         matches!(self.state, State::Done)
     }
 
-    /// How many bytes there are up to the end of this header, or of this block's data: 0 where the
+    /// How many bytes there are up to the end of this header, or of this block's data: 0 if the
     /// channel is done or has failed, or an EOD is to be told before a byte is taken.
     ///
     /// Whoever reads no more than this reads no byte behind an EOD or a bad header.
@@ -196,12 +200,10 @@ impl Channel {
             length piece.now + length self.old.header ≤ HEADER_LEN → step.used ≡ length piece.now) }
         ensures bad { IfErr result (λ bad. Fails self.old piece.now bad self.new) }
     {
-        let want = HEADER_LEN - self.header.len();
-        let used = want.min(piece.len());
-        let _ = self.header.try_extend_from_slice(&piece[..used]);
-        let place = self.taken - (HEADER_LEN - want) as u64;
+        let place = self.taken - self.header.len() as u64;
+        let used = gather(&mut self.header, piece);
         self.taken += used as u64;
-        if used < want {
+        if self.header.len() < HEADER_LEN {
             return Ok(Step { used, event: None });
         }
         let header = decode(&self.header);
@@ -215,6 +217,17 @@ impl Channel {
         self.state = state;
         Ok(Step { used, event })
     }
+}
+
+/// Takes bytes of a header, up to its end, and tells how many.
+fn gather(header: &mut ArrayVec<u8, HEADER_LEN>, piece: &[u8]) -> usize
+    ensures used { result ≡ min (HEADER_LEN - length header.old.items) (length piece.now) }
+    ensures gathered { header.new.items ≡ header.old.items ++ take result piece.now }
+    ensures size { length header.new.items ≡ length header.old.items + result }
+{
+    let used = (HEADER_LEN - header.len()).min(piece.len());
+    let _ = header.try_extend_from_slice(&piece[..used]);
+    used
 }
 
 /// Takes the data of a block that stands at the front of the piece, and gives what comes behind it.
@@ -258,7 +271,8 @@ fn open_block<'a>(header: &Header, shift: u64) -> (Option<Event<'a>>, State)
     ensures sound { (taken : ℕ) → IsSoundState result.1 taken [] }
     ensures event { IsEventOf result.0 result.1 [] }
     ensures carried { (taken : ℕ) (later : List ℕ) →
-        good_block shift header.now later (blocks_from shift (taken + header.now.count) (drop header.now.count later))
+        good_block shift header.now later
+        (blocks_from shift (taken + header.now.count) (drop header.now.count later))
         ≡ event_arrivals result.0 ++ to_come_in result.1 shift taken [] later }
 {
     let flags = Flags(header.flags);

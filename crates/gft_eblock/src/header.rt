@@ -2,11 +2,9 @@ ghost use Rattle.std.specs.Prelude.{◌≡◌, length};
 ghost use Rattle.gft_eblock.specs.Header.{is_bad};
 ghost use Rattle.gft_eblock.specs.Spelling.{header_of, spelling};
 
+use crate::HEADER_LEN;
 use crate::flags::Flags;
 use gft_base::LIMIT;
-
-/// The bytes of a header.
-pub(crate) const HEADER_LEN: usize = 17;
 
 /// What stands before the data of a block: its flags, how many bytes of data follow, and the offset
 /// of the first (under EOF the number of EODs to expect; GFD.20, extended block mode).
@@ -31,8 +29,8 @@ impl Header {
     }
 }
 
-/// The 17 bytes of a header: its flags, then its count and its offset in network byte order.
-pub fn encode(header: &Header) -> [u8; 17]
+/// The bytes of a header: its flags, then its count and its offset in network byte order.
+pub fn encode(header: &Header) -> [u8; HEADER_LEN]
     ensures spelled { result ≡ spelling header.now }
     ensures again { header_of result ≡ header.now }
 {

@@ -3,6 +3,7 @@
 ghost use Rattle.std.specs.Prelude.{◌≡◌, ℕ, ◌+◌, ◌^◌, ◌<◌, List, [], ◌∷◌, ◌++◌, length, false, if◌then◌else◌};
 ghost use Rattle.gft_eblock.specs.Arrival.{Arrival, Eof};
 ghost use Rattle.gft_eblock.specs.declared.header.Header.{Header};
+ghost use Rattle.gft_eblock.specs.declared.TheConstants.{HEADER_LEN};
 ghost use Rattle.gft_eblock.specs.Header.{is_bad, is_eod, is_eof};
 ghost use Rattle.gft_eblock.specs.Spelling.{spelling};
 ghost use Rattle.gft_eblock.specs.Arrivals.{HasEnded, IsUnfinished, arrivals, blocks_from, data_at, end_or};
@@ -14,7 +15,7 @@ pub fn one_block()
         → h.count < 2 ^ 64 → h.offset < 2 ^ 64 → length bytes ≡ h.count → is_bad shift h ≡ false
         → blocks_from shift place (spelling h ++ (bytes ++ rest))
         ≡ (if is_eof h.flags then Eof h.offset ∷ [] else []) ++ (data_at (shift + h.offset) bytes
-        ++ end_or (is_eod h.flags) (blocks_from shift (place + 17 + h.count) rest)) }
+        ++ end_or (is_eod h.flags) (blocks_from shift (place + HEADER_LEN + h.count) rest)) }
 {}
 
 /// Behind an EOD or a bad block nothing is told.

@@ -29,8 +29,13 @@ pub use event::{Event, Step};
 pub use header::{Header, encode};
 pub use laws::{early, grows, nothing_after, one_block};
 
+/// How many bytes a header has.
+pub const HEADER_LEN: usize = 17;
+
 /// The most bytes that one channel takes.
 pub const MAX_BYTES: u64 = 1 << 58;
 
-// The definitions of all crates cite the name: its number is pinned here.
+// The definitions of all crates cite the names: their numbers are pinned here.
+const _: () = prove!(HEADER_LEN == 17);
+
 const _: () = prove!(MAX_BYTES == 288_230_376_151_711_744);

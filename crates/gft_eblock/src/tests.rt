@@ -3,7 +3,7 @@ use arrayvec::ArrayVec;
 use std::process::Abort;
 
 /// A header and the bytes behind it, as they stand in a stream.
-fn header_bytes(flags: u8, count: u64, offset: u64) -> [u8; 17] {
+fn header_bytes(flags: u8, count: u64, offset: u64) -> [u8; HEADER_LEN] {
     encode(&Header {
         flags,
         count,

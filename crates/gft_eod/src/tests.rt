@@ -64,3 +64,23 @@ fn after_1024_eods_one_more_is_refused(rt: HostRuntime) -> Result<(), Fail> {
     assert!(rt; count.is_met());
     Ok(())
 }
+
+#[test]
+fn errors_have_their_texts(rt: HostRuntime) -> Result<(), Fail> {
+    let (total, kept, new) = (1025, 2, 3);
+    let rows = [
+        (
+            EodError::BadTotal { total },
+            "1025 EODs are announced: 1 to 1024 may be",
+        ),
+        (
+            EodError::TwoTotals { kept, new },
+            "3 EODs are announced after 2",
+        ),
+        (EodError::TooManyEods { total }, "more than 1025 EODs"),
+    ];
+    for (error, text) in rows {
+        assert_eq!(rt; error.to_string(rt.alloc())?.as_str(), text);
+    }
+    Ok(())
+}

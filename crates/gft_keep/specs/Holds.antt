@@ -7,6 +7,6 @@ use Rattle.gft_range.specs.Words.{HasOffset}
 abbrev pub HoldsAll : List Range → List ℕ → Type 0
 HoldsAll set file = (x : ℕ) → HasOffset set x → x < length file
 
--- what a read gives has each offset of the set, where the drive tells it
+-- what a read gives has each offset of the set, if the drive tells it
 abbrev pub Holds : List Range → DriveState → Type 0
 Holds set drive = (image : Image) → drive.contents ≡ Some image → HoldsAll set image.bytes

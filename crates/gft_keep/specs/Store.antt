@@ -56,7 +56,7 @@ pub record Stored (old new : KeepState) (offset : ℕ) (bytes : List ℕ) (answe
   pub few : length old.ranges ≤ MAX_RANGES → length new.ranges ≤ MAX_RANGES
   pub holds : Holds new.ranges new.drive
 
--- what is true where a block is refused so
+-- what is true if a block is refused so
 abbrev pub ShowsRefusal : KeepState → Range → KeepError → Type 0
 ShowsRefusal old block (RangesFull kept) = (kept ≡ MAX_RANGES) × IsFull old.ranges block
 ShowsRefusal old block other = Unit {0}
@@ -77,7 +77,7 @@ pub record Refused (old new : KeepState) (block : Range) (error : KeepError) : T
   pub ranges : new.ranges ≡ old.ranges
   pub stands : StandsAfter error new
 
--- the count of faults rose where the drive failed, and stays at every other error
+-- the count of faults rose if the drive failed, and stays at every other error
 abbrev pub CountsError : KeepError → ℕ → ℕ → Type 0
 CountsError Failed before now = Rose before now
 CountsError other before now = now ≡ before

@@ -8,7 +8,8 @@ ghost use Rattle.gft_keep.specs.Calls.{Attached, Broke, Emptied, Finished, NotAt
 ghost use Rattle.gft_keep.specs.Holds.{Holds};
 ghost use Rattle.gft_keep.specs.Of.{drive_of, keep_of};
 ghost use Rattle.gft_keep.specs.State.{IsWhole};
-ghost use Rattle.gft_keep.specs.Store.{HasKeepCause, IsBlock, IsFull, Refused, Stored, UnlessFailed, block_of};
+ghost use Rattle.gft_keep.specs.Store.{HasKeepCause, Refused, Stored, UnlessFailed};
+ghost use Rattle.gft_keep.specs.Store.{IsBlock, IsFull, block_of};
 
 use crate::MAX_RANGES;
 use crate::error::{AttachError, KeepError};
@@ -181,7 +182,8 @@ impl<D: Drive + Drop> Keep<D> {
     /// Cuts the file and syncs it; if that fails the keep is broken.
     fn cut(&mut self, len: u64) -> Result<(), Failed>
         requires whole { self.old.broken ≡ false }
-        ensures cut { OnOk result (Reads Bytes (CutTo len) (D.state self.old.drive) (D.state self.new.drive)) }
+        ensures cut { OnOk result
+            (Reads Bytes (CutTo len) (D.state self.old.drive) (D.state self.new.drive)) }
         ensures set { self.new.set ≡ self.old.set }
         ensures broken { IsTrue self.new.broken ↔ IsErr result }
         ensures goes { Goes (D.state self.old.drive) (D.state self.new.drive) }

@@ -5,9 +5,9 @@ use Rattle.gft_eod.specs.declared.TheConstants.{MAX_EODS}
 use Rattle.gft_eblock.specs.Words.{Arrival, At, Eof, Eod, Bad, Arrives, totals, eods}
 use Rattle.gft_core.specs.declared.CoreEvent.{CoreEvent}
 use Rattle.gft_core.specs.declared.CoreEvent.TheVariants as event
-use Rattle.gft_core.specs.Words.{first, since, begun, total, AllPass, Done}
+use Rattle.gft_core.specs.Words.{first_some, since, begun, total, AllPass, Done}
 use Rattle.gft_core.specs.Words as core
-use Rattle.gft_core.proofs.Lemmas.{first-none, first-assoc}
+use Rattle.gft_core.proofs.Lemmas.{first_some-none, first_some-assoc}
 use Rattle.gridftpd.specs.Events.{event_of, events_after, events_of}
 use Rattle.gridftpd.specs.Follows.{HasNoBad}
 use Rattle.gridftpd.specs.Totals.{first_of, AllAre}
@@ -30,17 +30,17 @@ begun-after before (Eod ∷ list) = begun-after (event_of Eod ∷ before) list
 begun-after before (Bad refusal ∷ list) = begun-after (event_of (Bad refusal) ∷ before) list
 
 -- what announces no total
-still_total : (before : List CoreEvent) (rest : Option ℕ) → first (first (total (since before)) None) rest ≡ first (total (since before)) rest
-still_total before rest = ap (λ o. first o rest) (first-none (total (since before)))
+still_total : (before : List CoreEvent) (rest : Option ℕ) → first_some (first_some (total (since before)) None) rest ≡ first_some (total (since before)) rest
+still_total before rest = ap (λ o. first_some o rest) (first_some-none (total (since before)))
 
-total-after : (before : List CoreEvent) (list : List Arrival) → total (since (events_after before list)) ≡ first (total (since before)) (first_of (totals list))
-total-after before [] = sym (first-none (total (since before)))
+total-after : (before : List CoreEvent) (list : List Arrival) → total (since (events_after before list)) ≡ first_some (total (since before)) (first_of (totals list))
+total-after before [] = sym (first_some-none (total (since before)))
 total-after before (At offset value ∷ list) = total-after (event_of (At offset value) ∷ before) list ∙ still_total before (first_of (totals list))
-total-after before (Eof n ∷ list) = total-after (event_of (Eof n) ∷ before) list ∙ first-assoc (total (since before)) (Some n) (first_of (totals list))
+total-after before (Eof n ∷ list) = total-after (event_of (Eof n) ∷ before) list ∙ first_some-assoc (total (since before)) (Some n) (first_of (totals list))
 total-after before (Eod ∷ list) = total-after (event_of Eod ∷ before) list ∙ still_total before (first_of (totals list))
 total-after before (Bad refusal ∷ list) = total-after (event_of (Bad refusal) ∷ before) list ∙ still_total before (first_of (totals list))
 
-eods-after : (before : List CoreEvent) (list : List Arrival) → core.eods (since (events_after before list)) ≡ core.eods (since before) + eods list
+eods-after : (before : List CoreEvent) (list : List Arrival) → core.eod_count (since (events_after before list)) ≡ core.eod_count (since before) + eods list
 eods-after before [] = omega arith
 eods-after before (At offset value ∷ list) = omega (arith, eods-after (event_of (At offset value) ∷ before) list)
 eods-after before (Eof n ∷ list) = omega (arith, eods-after (event_of (Eof n) ∷ before) list)

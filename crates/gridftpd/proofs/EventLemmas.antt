@@ -6,38 +6,38 @@ use Rattle.std.proofs.lemmas.Bool.{cases_order}
 use Rattle.gft_eblock.specs.Words.{Arrival, At, Eof, Eod, Bad, Arrives, data_at}
 use Rattle.gft_core.specs.declared.CoreEvent.{CoreEvent}
 use Rattle.gft_core.specs.declared.CoreEvent.TheVariants as event
-use Rattle.gft_core.specs.Words.{first, byte_at, answered, kept}
-use Rattle.gft_core.proofs.Lemmas.{first-none, first-assoc, first_front, first_back, byte_at-here, byte_at-later}
+use Rattle.gft_core.specs.Words.{first_some, byte_at, answered, kept}
+use Rattle.gft_core.proofs.Lemmas.{first_some-none, first_some-assoc, first_some_front, first_some_back, byte_at-here, byte_at-later}
 use Rattle.gridftpd.specs.Events.{event_of, events_after, events_of}
 
-kept-event : (before : List CoreEvent) (arrival : Arrival) (x : ℕ) → kept (event_of arrival ∷ before) x ≡ first (kept before x) (answered (event_of arrival) x)
+kept-event : (before : List CoreEvent) (arrival : Arrival) (x : ℕ) → kept (event_of arrival ∷ before) x ≡ first_some (kept before x) (answered (event_of arrival) x)
 kept-event before (At offset value) x = refl
 kept-event before (Eof total) x = refl
 kept-event before Eod x = refl
 kept-event before (Bad refusal) x = refl
 
-pub kept-after : (before : List CoreEvent) (list : List Arrival) (x : ℕ) → kept (events_after before list) x ≡ first (kept before x) (kept (events_of list) x)
-kept-after before [] x = sym (first-none (kept before x))
+pub kept-after : (before : List CoreEvent) (list : List Arrival) (x : ℕ) → kept (events_after before list) x ≡ first_some (kept before x) (kept (events_of list) x)
+kept-after before [] x = sym (first_some-none (kept before x))
 kept-after before (arrival ∷ later) x =
     let fresh : List CoreEvent = event.Fresh ∷ [] in
     let rest = kept (events_of later) x in
-    let alone : kept (events_after (event_of arrival ∷ fresh) later) x ≡ first (answered (event_of arrival) x) rest
-    = kept-after (event_of arrival ∷ fresh) later x ∙ ap (λ o. first o rest) (kept-event fresh arrival x) in
+    let alone : kept (events_after (event_of arrival ∷ fresh) later) x ≡ first_some (answered (event_of arrival) x) rest
+    = kept-after (event_of arrival ∷ fresh) later x ∙ ap (λ o. first_some o rest) (kept-event fresh arrival x) in
     kept-after (event_of arrival ∷ before) later x
-    ∙ ap (λ o. first o rest) (kept-event before arrival x)
-    ∙ first-assoc (kept before x) (answered (event_of arrival) x) rest
-    ∙ ap (first (kept before x)) (sym alone)
+    ∙ ap (λ o. first_some o rest) (kept-event before arrival x)
+    ∙ first_some-assoc (kept before x) (answered (event_of arrival) x) rest
+    ∙ ap (first_some (kept before x)) (sym alone)
 
-kept-cons : (arrival : Arrival) (later : List Arrival) (x : ℕ) → kept (events_of (arrival ∷ later)) x ≡ first (answered (event_of arrival) x) (kept (events_of later) x)
+kept-cons : (arrival : Arrival) (later : List Arrival) (x : ℕ) → kept (events_of (arrival ∷ later)) x ≡ first_some (answered (event_of arrival) x) (kept (events_of later) x)
 kept-cons arrival later x =
     let fresh : List CoreEvent = event.Fresh ∷ [] in
-    kept-after (event_of arrival ∷ fresh) later x ∙ ap (λ o. first o (kept (events_of later) x)) (kept-event fresh arrival x)
+    kept-after (event_of arrival ∷ fresh) later x ∙ ap (λ o. first_some o (kept (events_of later) x)) (kept-event fresh arrival x)
 
 pub events_after-append : (before : List CoreEvent) (a b : List Arrival) → events_after before (a ++ b) ≡ events_after (events_after before a) b
 events_after-append before [] b = refl
 events_after-append before (arrival ∷ a) b = events_after-append (event_of arrival ∷ before) a b
 
-kept-append : (a b : List Arrival) (x : ℕ) → kept (events_of (a ++ b)) x ≡ first (kept (events_of a) x) (kept (events_of b) x)
+kept-append : (a b : List Arrival) (x : ℕ) → kept (events_of (a ++ b)) x ≡ first_some (kept (events_of a) x) (kept (events_of b) x)
 kept-append a b x = ap (λ (events : List CoreEvent). kept events x) (events_after-append (event.Fresh ∷ []) a b) ∙ kept-after (events_of a) b x
 
 -- ---- where a byte arrives, one is kept
@@ -47,10 +47,10 @@ arrives_kept [] x came = absurd came
 arrives_kept (At offset value ∷ list) x came =
     let cons = kept-cons (At offset value) list x in
     elim came [
-      | inl here ↦ (value, cons ∙ first_front (byte_at offset (value ∷ []) x) (kept (events_of list) x) value (byte_at-here offset value [] x (sym here)))
+      | inl here ↦ (value, cons ∙ first_some_front (byte_at offset (value ∷ []) x) (kept (events_of list) x) value (byte_at-here offset value [] x (sym here)))
       | inr later ↦
           let rest = arrives_kept list x later in
-          let found = first_back (byte_at offset (value ∷ []) x) (kept (events_of list) x) rest.0 rest.1 in
+          let found = first_some_back (byte_at offset (value ∷ []) x) (kept (events_of list) x) rest.0 rest.1 in
           (found.0, cons ∙ found.1)
     ]
 arrives_kept (Eof total ∷ list) x came = let rest = arrives_kept list x came in (rest.0, kept-cons (Eof total) list x ∙ rest.1)
@@ -64,7 +64,7 @@ kept_arrives (At offset value ∷ list) x v has =
       | inl same ↦ inl (sym same)
       | inr apart ↦
           let other : x ≢ offset = elim apart [ inl less ↦ omega arith | inr more ↦ omega arith ] in
-          let rest = kept-cons (At offset value) list x ∙ ap (λ o. first o (kept (events_of list) x)) (byte_at-later offset value [] x other) in
+          let rest = kept-cons (At offset value) list x ∙ ap (λ o. first_some o (kept (events_of list) x)) (byte_at-later offset value [] x other) in
           inr (kept_arrives list x v (sym rest ∙ has))
     ]
 kept_arrives (Eof total ∷ list) x v has = kept_arrives list x v (sym (kept-cons (Eof total) list x) ∙ has)
@@ -82,19 +82,19 @@ none_kept list x out = absent (kept (events_of list) x) (λ v has. out (kept_arr
 pub kept-first : (a b : List Arrival) (x : ℕ) → Arrives a x → kept (events_of (a ++ b)) x ≡ kept (events_of a) x
 kept-first a b x came =
     let byte = arrives_kept a x came in
-    kept-append a b x ∙ first_front (kept (events_of a) x) (kept (events_of b) x) byte.0 byte.1 ∙ sym byte.1
+    kept-append a b x ∙ first_some_front (kept (events_of a) x) (kept (events_of b) x) byte.0 byte.1 ∙ sym byte.1
 
 pub kept-later : (a b : List Arrival) (x : ℕ) → ¬ Arrives a x → kept (events_of (a ++ b)) x ≡ kept (events_of b) x
-kept-later a b x out = kept-append a b x ∙ ap (λ o. first o (kept (events_of b) x)) (none_kept a x out)
+kept-later a b x out = kept-append a b x ∙ ap (λ o. first_some o (kept (events_of b) x)) (none_kept a x out)
 
 pub kept-data_at : (offset : ℕ) (bytes : List ℕ) (x k : ℕ) → x ≡ offset + k → k < length bytes → kept (events_of (data_at offset bytes)) x ≡ Some (slice_index bytes k)
 kept-data_at offset [] x k is lt = absurd (omega arith)
 kept-data_at offset (v ∷ bytes) x zero is lt =
     let later = data_at (offset + 1) bytes in
-    kept-cons (At offset v) later x ∙ first_front (byte_at offset (v ∷ []) x) (kept (events_of later) x) v (byte_at-here offset v [] x (omega arith))
+    kept-cons (At offset v) later x ∙ first_some_front (byte_at offset (v ∷ []) x) (kept (events_of later) x) v (byte_at-here offset v [] x (omega arith))
 kept-data_at offset (v ∷ bytes) x (suc k) is lt =
     let later = data_at (offset + 1) bytes in
     let other : x ≢ offset = omega arith in
     kept-cons (At offset v) later x
-    ∙ ap (λ o. first o (kept (events_of later) x)) (byte_at-later offset v [] x other)
+    ∙ ap (λ o. first_some o (kept (events_of later) x)) (byte_at-later offset v [] x other)
     ∙ kept-data_at (offset + 1) bytes x k (omega arith) (omega arith)

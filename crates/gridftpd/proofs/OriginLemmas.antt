@@ -6,7 +6,7 @@ use Rattle.std.proofs.lemmas.Option.{none-some}
 use Rattle.gft_eblock.specs.Words.{Arrival, At, Eof, Eod, Bad, eods, arrivals, HasEnded}
 use Rattle.gft_core.specs.declared.CoreEvent.{CoreEvent}
 use Rattle.gft_core.specs.declared.CoreEvent.TheVariants as event
-use Rattle.gft_core.specs.Words.{byte_at, generation, Done, AllCarry, Carries}
+use Rattle.gft_core.specs.Words.{byte_at, generation, Done, AllCarry, CarriesSource}
 use Rattle.gft_core.proofs.Lemmas.{honest, sent_where_booked, byte_at-here, byte_at-later}
 use Rattle.gft_drive.specs.Words.{DriveState, Reads}
 use Rattle.gft_drive.specs.declared.Part.TheVariants.{Bytes}
@@ -31,7 +31,7 @@ told_of_all bytes stream None consumed some = absurd consumed
 told_of_all bytes stream (Some rest) consumed some = ap (arrivals 0) consumed ∙ arrivals-ended 0 stream rest (HasEnded-eods (told_by stream) some)
 
 -- a byte that arrives and is the source's, as a block
-block_carries : (source : List ℕ) (offset value : ℕ) → slice_get source offset ≡ Some value → Carries source (byte_at offset (value ∷ []))
+block_carries : (source : List ℕ) (offset value : ℕ) → slice_get source offset ≡ Some value → CarriesSource source (byte_at offset (value ∷ []))
 block_carries source offset value is x v has =
     elim (cases_order x offset) [
       | inl same ↦ ap (slice_get source) same ∙ is ∙ sym (byte_at-here offset value [] x same) ∙ has
@@ -40,7 +40,7 @@ block_carries source offset value is x v has =
           absurd (none-some v (sym (byte_at-later offset value [] x other) ∙ has))
     ]
 
-nothing_carried : (source : List ℕ) → Carries source (λ x. None)
+nothing_carried : (source : List ℕ) → CarriesSource source (λ x. None)
 nothing_carried source x v has = absurd (none-some v has)
 
 -- truthful arrivals carry the source's bytes
