@@ -1,7 +1,7 @@
-mod FitLemmas
 mod LawLemmas
 mod PartFits
 mod PrintedLemmas
+mod QuitLemmas
+mod RowLemmas
 mod TelnetLemmas
 mod VerbLemmas
-mod WrittenLemmas

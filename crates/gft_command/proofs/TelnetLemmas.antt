@@ -21,7 +21,7 @@ pub doubled-plain : (text : List ℕ) → IsPlain text → doubled text ≡ text
 doubled-plain [] plain = refl
 doubled-plain (b ∷ bs) plain = rw (plain_first b bs plain) (ap (λ (x : List ℕ). b ∷ x) (doubled-plain bs (plain_rest b bs plain)))
 
-undoubled-cons : (b : ℕ) (bs : List ℕ) → eqb b 255 ≡ false → undoubled (b ∷ bs) ≡ b ∷ undoubled bs
+pub undoubled-cons : (b : ℕ) (bs : List ℕ) → eqb b 255 ≡ false → undoubled (b ∷ bs) ≡ b ∷ undoubled bs
 undoubled-cons b [] other = refl
 undoubled-cons b (c ∷ bs) other = rw other refl
 

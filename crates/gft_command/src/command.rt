@@ -1,17 +1,29 @@
-ghost use Rattle.std.specs.Prelude.{◌≡◌, ◌↔◌, IsTrue, IfOk, IfErr};
-ghost use Rattle.gft_command.specs.Commands.{IsCommand, RefusesLine, RefusesText, Says, are_numbered, known_verbs};
-ghost use Rattle.gft_command.specs.Written.{Fits, IsSentAs, IsTextOf, command_text};
+ghost use Rattle.std.specs.Prelude.{◌≡◌, ◌<◌, ◌↔◌, length, slice_get, IfSome, IsTrue, IfOk, IfErr, MatchOption, MatchResult, Ok};
+ghost use Rattle.gft_command.specs.Commands.{
+    IsCommand, IsRead, IsVerbOf, RefusesLine, RefusesText, SaysCommand
+};
+ghost use Rattle.gft_command.specs.Parameters.{RefusesForm};
+ghost use Rattle.gft_command.specs.Table.{AreOthers, IsPlaceOf, row_of, value_of, verb_of};
+ghost use Rattle.gft_command.specs.Written.{FitsCommand, IsSentAs, IsTextOf, command_text};
 
 use crate::error::CommandError;
-use crate::forms::{
-    bare, eret, esto, host_port, leading_number, letter, list, number, options, targets, words,
-};
-use crate::line::{begin, end};
+use crate::forms::address::Address;
+use crate::forms::leading_number::LeadingNumber;
+use crate::forms::letter::Letter;
+use crate::forms::number::Number;
+use crate::forms::options::Options;
+use crate::forms::part::Part;
+use crate::forms::place::Place;
+use crate::forms::ranges::Ranges;
+use crate::forms::targets::Targets;
+use crate::forms::text::Text;
+use crate::forms::{Form, nothing, written};
+use crate::line::end;
 use crate::telnet::{is_plain, past_signals, undouble};
 use gft_base::{OutOfMemory, split_word};
-use gft_opts::{Eret, Esto, HostPorts, RetrOptions};
+use gft_opts::{Eret, Esto, HostPorts, OptsError, RetrOptions};
 use gft_range::RangeSet;
-use gft_text::{Entry, HostPort, Table, Words};
+use gft_text::{HostPort, Words};
 use std::alloc::Global;
 
 /// A command of the control conversation, and what it carries.
@@ -50,79 +62,101 @@ pub enum Command {
 }
 
 /// Hands the verbs to another macro: those without a parameter, and those with one by its form. A
-/// form is a module of `forms`.
+/// form is a type of `forms`.
 macro_rules! with_verbs {
     ($then:ident ($($args:tt)*)) => {
         $then! {
             ($($args)*)
-            { Quit 1 "QUIT", Noop 2 "NOOP", Feat 3 "FEAT", Pwd 4 "PWD", Pasv 5 "PASV", Spas 6 "SPAS", Abor 7 "ABOR" }
-            words { User 8 "USER", Pass 9 "PASS", Cwd 10 "CWD", Stor 11 "STOR", Retr 12 "RETR", Size 13 "SIZE", Dele 14 "DELE" }
-            letter { SetType 15 "TYPE", SetMode 16 "MODE", SetStru 17 "STRU", Dcau 18 "DCAU" }
-            number { Sbuf 19 "SBUF" }
-            leading_number { Allo 20 "ALLO" }
-            options { Opts 21 "OPTS" }
-            host_port { Port 22 "PORT" }
-            targets { Spor 23 "SPOR" }
-            list { Rest 24 "REST" }
-            eret { Eret 25 "ERET" }
-            esto { Esto 26 "ESTO" }
+            {
+                Quit 0 "QUIT",
+                Noop 1 "NOOP",
+                Feat 2 "FEAT",
+                Pwd 3 "PWD",
+                Pasv 4 "PASV",
+                Spas 5 "SPAS",
+                Abor 6 "ABOR",
+            }
+            {
+                User 7 "USER" Text,
+                Pass 8 "PASS" Text,
+                Cwd 9 "CWD" Text,
+                Stor 10 "STOR" Text,
+                Retr 11 "RETR" Text,
+                Size 12 "SIZE" Text,
+                Dele 13 "DELE" Text,
+                SetType 14 "TYPE" Letter,
+                SetMode 15 "MODE" Letter,
+                SetStru 16 "STRU" Letter,
+                Dcau 17 "DCAU" Letter,
+                Sbuf 18 "SBUF" Number,
+                Allo 19 "ALLO" LeadingNumber,
+                Opts 20 "OPTS" Options,
+                Port 21 "PORT" Address,
+                Spor 22 "SPOR" Targets,
+                Rest 23 "REST" Ranges,
+                Eret 24 "ERET" Part,
+                Esto 25 "ESTO" Place,
+            }
         }
     };
 }
 
-/// The entries of the table of verbs.
-macro_rules! entries {
+/// The verbs, each at its place.
+macro_rules! verbs {
     (
         ()
-        { $($bare:ident $bare_code:literal $bare_text:literal),* }
-        $($form:ident { $($variant:ident $code:literal $text:literal),* })*
+        { $($bare:ident $bare_place:literal $bare_text:literal,)* }
+        { $($variant:ident $place:literal $text:literal $form:ident,)* }
     ) => {
-        &[
-            $(Entry { text: $bare_text, code: $bare_code },)*
-            $($(Entry { text: $text, code: $code },)*)*
-        ]
+        &[$($bare_text,)* $($text,)*]
+    };
+}
+
+/// An arm for each place, with a command of its verb.
+macro_rules! blanks {
+    (
+        ($alloc:expr, $at:expr)
+        { $($bare:ident $bare_place:literal $bare_text:literal,)* }
+        { $($variant:ident $place:literal $text:literal $form:ident,)* }
+    ) => {
+        match $at {
+            $($bare_place => Command::$bare,)*
+            $($place => Command::$variant($form::blank($alloc)),)*
+            _ => unreachable!(),
+        }
     };
 }
 
 /// An arm for each verb, which reads its parameter.
 macro_rules! parsed {
     (
-        ($alloc:expr, $verb:expr, $parameter:expr)
-        { $($bare:ident $bare_code:literal $bare_text:literal),* }
-        $($form:ident { $($variant:ident $code:literal $text:literal),* })*
+        ($alloc:expr, $blank:expr, $parameter:expr)
+        { $($bare:ident $bare_place:literal $bare_text:literal,)* }
+        { $($variant:ident $place:literal $text:literal $form:ident,)* }
     ) => {
-        match $verb {
-            $($bare_code => {
-                bare::read($parameter)?;
-                Ok(Command::$bare)
-            })*
-            _ => {
-                if $parameter.is_empty() {
-                    return Err(CommandError::MissingParameter);
-                }
-                match $verb {
-                    $($($code => Ok(Command::$variant($form::read($alloc, $parameter)?)),)*)*
-                    _ => unreachable!(),
-                }
-            }
+        match $blank {
+            $(Command::$bare => match nothing::read($parameter) {
+                Ok(()) => Ok(Command::$bare),
+                Err(error) => Err(error),
+            },)*
+            $(Command::$variant(_) => match $form::read($alloc, $parameter) {
+                Ok(value) => Ok(Command::$variant(value)),
+                Err(error) => Err(error),
+            },)*
         }
     };
 }
 
-/// An arm for each verb, which writes its line.
-macro_rules! written {
+/// An arm for each verb, which writes its text.
+macro_rules! texts {
     (
         ($alloc:expr, $command:expr)
-        { $($bare:ident $bare_code:literal $bare_text:literal),* }
-        $($form:ident { $($variant:ident $code:literal $text:literal),* })*
+        { $($bare:ident $bare_place:literal $bare_text:literal,)* }
+        { $($variant:ident $place:literal $text:literal $form:ident,)* }
     ) => {
         match $command {
-            $(Command::$bare => Ok(Vec::from_slice($alloc, $bare_text.as_bytes())?),)*
-            $($(Command::$variant(value) => {
-                let mut line = begin($alloc, $text)?;
-                $form::append(&mut line, value)?;
-                Ok(line)
-            })*)*
+            $(Command::$bare => nothing::written($alloc, $bare_text),)*
+            $(Command::$variant(value) => written::<$form>($alloc, $text, value),)*
         }
     };
 }
@@ -131,35 +165,28 @@ macro_rules! written {
 macro_rules! fitting {
     (
         ($command:expr)
-        { $($bare:ident $bare_code:literal $bare_text:literal),* }
-        $($form:ident { $($variant:ident $code:literal $text:literal),* })*
+        { $($bare:ident $bare_place:literal $bare_text:literal,)* }
+        { $($variant:ident $place:literal $text:literal $form:ident,)* }
     ) => {
         match $command {
             $(Command::$bare => true,)*
-            $($(Command::$variant(value) => $form::fits($text, value),)*)*
+            $(Command::$variant(value) => $form::fits($text, value),)*
         }
     };
 }
 
-const VERBS: Table = Table {
-    entries: with_verbs!(entries()),
-};
-
-/// The table of verbs, with codes from 1 on.
-fn verb_table() -> Table
-    ensures { IsTrue (are_numbered result.entries.now known_verbs 1) }
-{
-    VERBS
-}
+const VERBS: &[&str] = with_verbs!(verbs());
 
 /// Reads a line, without its end, as a command.
 ///
-/// Telnet's signals in front are skipped, and 255 255 is one byte 255. `UnknownVerb` where the verb is
-/// none of the table, else `MissingParameter` where it needs a parameter and has none, else
-/// `BadParameter` where the parameter isn't in the verb's grammar.
+/// Telnet's signals in front are skipped, and 255 255 is one byte 255. `UnknownVerb` if the verb is
+/// none of the table, else `MissingParameter` if it needs a parameter and has none, else
+/// `BadParameter` if the parameter isn't in the verb's grammar. `OutOfMemory` only if the line could
+/// be a command that takes memory, or has a byte 255 behind the signals; never if it is QUIT.
 pub fn parse(alloc: Global, line: &[u8]) -> Result<Command, CommandError>
     ensures command { IfOk result (IsCommand line.now) }
     ensures refused { IfErr result (RefusesLine line.now) }
+    ensures quit { IsCommand line.now Command.Quit → result ≡ Ok Command.Quit }
 {
     let line = past_signals(line);
     if is_plain(line) {
@@ -170,22 +197,64 @@ pub fn parse(alloc: Global, line: &[u8]) -> Result<Command, CommandError>
 }
 
 fn parse_text(alloc: Global, text: &[u8]) -> Result<Command, CommandError>
-    ensures command { IfOk result (Says text.now) }
-    ensures refused { IfErr result (RefusesText text.now) }
+    ensures { MatchResult result (SaysCommand text.now) (RefusesText text.now) }
 {
     let (verb, parameter) = split_word(text, b' ');
-    let table = verb_table();
-    let Some(code) = table.find(verb) else {
+    let Some(blank) = blank_of(alloc, verb) else {
         return Err(CommandError::UnknownVerb);
     };
-    with_verbs!(parsed(alloc, code, parameter))
+    match blank.read(alloc, parameter) {
+        Ok(command) => Ok(command),
+        Err(OptsError::OutOfMemory) => Err(CommandError::OutOfMemory),
+        Err(OptsError::BadParameter) if parameter.is_empty() => Err(CommandError::MissingParameter),
+        Err(OptsError::BadParameter) => Err(CommandError::BadParameter),
+    }
+}
+
+/// A command of this verb, in any case of its letters, that carries nothing yet.
+fn blank_of(alloc: Global, verb: &[u8]) -> Option<Command>
+    ensures { MatchOption result ((command : Command) → ¬ IsVerbOf verb.now command)
+        (IsVerbOf verb.now) }
+{
+    match place_of(VERBS, verb) {
+        Some(place) => Some(blank(alloc, place)),
+        None => None,
+    }
+}
+
+/// The place of this verb among the words, in any case of its letters.
+fn place_of(words: &[&str], verb: &[u8]) -> Option<usize>
+    ensures { MatchOption result (AreOthers words.now verb.now) (IsPlaceOf words.now verb.now) }
+{
+    for (place, word) in words.iter().enumerate() {
+        if word.as_bytes().eq_ignore_ascii_case(verb) {
+            return Some(place);
+        }
+    }
+    None
+}
+
+/// A command of the verb at this place, that carries nothing yet.
+fn blank(alloc: Global, place: usize) -> Command
+    requires { place < length VERBS.now }
+    ensures { IfSome (slice_get VERBS.now place) (λ word. word.now ≡ verb_of result) }
+{
+    with_verbs!(blanks(alloc, place))
 }
 
 impl Command {
+    /// The command of the same verb that carries what this parameter says.
+    fn read(&self, alloc: Global, parameter: &[u8]) -> Result<Command, OptsError>
+        ensures { MatchResult result (IsRead self.now parameter.now)
+            (RefusesForm parameter.now (value_of self.now)) }
+    {
+        with_verbs!(parsed(alloc, self, parameter))
+    }
+
     /// Whether the command has a line: what it carries is in the grammar of its verb, and bytes of its
     /// own have no LF and make no line that is too long.
     pub fn fits(&self) -> bool
-        ensures { IsTrue result ↔ Fits self.now }
+        ensures { IsTrue result ↔ FitsCommand self.now }
     {
         with_verbs!(fitting(self))
     }
@@ -193,7 +262,7 @@ impl Command {
     /// The line of a command that fits: the verb in capitals, a space and the parameter, each byte 255
     /// twice, and CR and LF. `OutOfMemory` when it can't be allocated.
     pub fn write(&self, alloc: Global) -> Result<Vec<u8>, OutOfMemory>
-        requires { Fits self.now }
+        requires { FitsCommand self.now }
         ensures text { IfOk result (λ text. text.items ≡ command_text self.now) }
         ensures read_again { IfOk result (λ text. IsSentAs text.items self.now) }
     {
@@ -203,9 +272,9 @@ impl Command {
     }
 
     fn text(&self, alloc: Global) -> Result<Vec<u8>, OutOfMemory>
-        requires { Fits self.now }
-        ensures { IfOk result (λ text. IsTextOf text.items self.now) }
+        requires { FitsCommand self.now }
+        ensures { IfOk result (λ text. IsTextOf text.items (row_of self.now)) }
     {
-        with_verbs!(written(alloc, self))
+        with_verbs!(texts(alloc, self))
     }
 }

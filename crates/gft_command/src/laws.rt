@@ -4,7 +4,7 @@ ghost use Rattle.std.specs.Prelude.{◌≡◌, ◌≢◌, ℕ, List};
 ghost use Rattle.gft_command.specs.Commands.{IsCommand, IsSame, RefusesLine};
 ghost use Rattle.gft_command.specs.Parameters.{IsWritable};
 ghost use Rattle.gft_command.specs.Telnet.{doubled};
-ghost use Rattle.gft_command.specs.Written.{Fits, text_for};
+ghost use Rattle.gft_command.specs.Written.{FitsCommand, text_for};
 ghost use Rattle.gft_command.specs.declared.command.Command.{Command};
 ghost use Rattle.gft_command.specs.declared.error.CommandError.{CommandError};
 ghost use Rattle.gft_command.specs.declared.error.CommandError.TheVariants as errors;
@@ -13,11 +13,12 @@ ghost use Rattle.gft_command.specs.declared.error.CommandError.TheVariants as er
 /// has one refusal beside that. A command that some line is fits, unless its own line has an LF or,
 /// with its CR, is too long.
 pub fn commands_have_one_value()
-    ensures one { (line : List ℕ) (a b : Command) → IsCommand line a → IsCommand line b → IsSame a b }
+    ensures one { (line : List ℕ) (a b : Command) →
+        IsCommand line a → IsCommand line b → IsSame a b }
     ensures taken { (line : List ℕ) (command : Command) (e : CommandError) →
         IsCommand line command → RefusesLine line e → e ≡ errors.OutOfMemory }
     ensures refused { (line : List ℕ) (a b : CommandError) → RefusesLine line a → RefusesLine line b →
         a ≢ errors.OutOfMemory → b ≢ errors.OutOfMemory → a ≡ b }
     ensures fits { (line : List ℕ) (command : Command) →
-        IsCommand line command → IsWritable (doubled (text_for command)) → Fits command }
+        IsCommand line command → IsWritable (doubled (text_for command)) → FitsCommand command }
 {}

@@ -1,19 +1,21 @@
 //! The line of a command, as it is sent.
 
-ghost use Rattle.std.specs.Prelude.{◌≡◌, ◌≤◌, ◌^◌, decimal, ◌++◌, ◌<◌, length, ◌∷◌, [], ◌↔◌, IsTrue, IfOk, OnOk};
-ghost use Rattle.gft_base.specs.Words.{Lacks};
+ghost use Rattle.std.specs.Prelude.{
+    ◌≡◌, ◌≤◌, ◌^◌, ◌++◌, ◌<◌, ◌∷◌, [], ◌↔◌, decimal, length, IsTrue, IfOk
+};
+ghost use Rattle.gft_base.specs.Words.{Lacks, carriage_return, line_feed};
 ghost use Rattle.gft_command.specs.Parameters.{FitsBehind};
+ghost use Rattle.gft_command.specs.Table.{is_verb};
 ghost use Rattle.gft_command.specs.Telnet.{doubled};
 
 use crate::telnet::{double, doubled_len};
 use gft_base::{OutOfMemory, find_byte};
 use gft_text::LINE_LIMIT;
-use std::alloc::Global;
 
 /// Whether a line of this verb is one line and, with a space and its CR, not too long, where its
 /// parameter is so many bytes without an LF and these behind them.
 pub(crate) fn fits_behind(verb: &str, front: usize, bytes: &[u8]) -> bool
-    requires verb { length verb.now < 5 }
+    requires verb { IsTrue (is_verb verb.now) }
     requires front { front < 50 }
     ensures { IsTrue result ↔ FitsBehind verb.now front bytes.now }
 {
@@ -21,7 +23,7 @@ pub(crate) fn fits_behind(verb: &str, front: usize, bytes: &[u8]) -> bool
 }
 
 fn lacks_line_feed(text: &[u8]) -> bool
-    ensures { IsTrue result ↔ Lacks 10 text.now }
+    ensures { IsTrue result ↔ Lacks line_feed text.now }
 {
     find_byte(text, b'\n').is_none()
 }
@@ -41,18 +43,9 @@ pub(crate) fn digit_count(number: u64) -> usize
     count
 }
 
-/// The verb and a space.
-pub(crate) fn begin(alloc: Global, verb: &str) -> Result<Vec<u8>, OutOfMemory>
-    ensures { IfOk result (λ line. line.items ≡ verb.now ++ 32 ∷ []) }
-{
-    let mut line = Vec::from_slice(alloc, verb.as_bytes())?;
-    line.push(b' ')?;
-    Ok(line)
-}
-
 /// The line as it is sent: each byte 255 doubled, with its end.
 pub(crate) fn end(text: Vec<u8>) -> Result<Vec<u8>, OutOfMemory>
-    ensures { IfOk result (λ line. line.items ≡ doubled text.items ++ 13 ∷ 10 ∷ []) }
+    ensures { IfOk result (λ line. line.items ≡ doubled text.items ++ carriage_return ∷ line_feed ∷ []) }
 {
     let mut line = double(text)?;
     line.extend_from_slice(b"\r\n")?;

@@ -1,7 +1,12 @@
 //! The bytes of Telnet in a line of the control conversation (RFC 959, section 3.1; RFC 854).
 
-ghost use Rattle.std.specs.Prelude.{◌≡◌, ℕ, List, ◌≤◌, ◌<◌, ◌^◌, ◌∷◌, ◌++◌, [], ◌==◌, ◌||◌, length, IsTrue, IfOk, OnOk, count_by};
-ghost use Rattle.gft_command.specs.Telnet.{doubled, past_signals, undoubled};
+ghost use Rattle.std.specs.Prelude.{
+    ◌≡◌, ◌≤◌, ◌∷◌, ◌++◌, ◌==◌, ◌||◌, ◌↔◌, ℕ, List, length, IsTrue, IfOk, OnOk, count_by
+};
+ghost use Rattle.gft_base.specs.Words.{Lacks};
+ghost use Rattle.gft_command.specs.Telnet.{
+    data_mark, doubled, interrupt_process, past_signals, telnet_escape, undoubled
+};
 
 use gft_base::{OutOfMemory, find_byte};
 use std::alloc::Global;
@@ -25,7 +30,7 @@ pub(crate) fn past_signals(line: &[u8]) -> &[u8]
 }
 
 fn is_signal(byte: u8) -> bool
-    ensures { result ≡ (byte == 244 || byte == 242) }
+    ensures { result ≡ (byte == interrupt_process || byte == data_mark) }
 {
     byte == 244 || byte == 242
 }
@@ -75,7 +80,8 @@ pub(crate) fn double(text: Vec<u8>) -> Result<Vec<u8>, OutOfMemory>
 
 /// Whether no byte of the text is 255.
 pub(crate) fn is_plain(text: &[u8]) -> bool
-    ensures { IsTrue result → (doubled text.now ≡ text.now) × (undoubled text.now ≡ text.now) }
+    ensures plain { IsTrue result ↔ Lacks telnet_escape text.now }
+    ensures same { IsTrue result → (doubled text.now ≡ text.now) × (undoubled text.now ≡ text.now) }
 {
     find_byte(text, IAC).is_none()
 }
@@ -100,7 +106,7 @@ pub(crate) fn doubled_len(text: &[u8]) -> usize
 }
 
 fn count_double(text: &[u8]) -> usize
-    ensures count { result ≡ count_by (λ b. b == 255) text.now }
+    ensures count { result ≡ count_by (λ b. b == telnet_escape) text.now }
     ensures within { result ≤ length text.now }
 {
     text.iter().filter(|byte| **byte == IAC).count()

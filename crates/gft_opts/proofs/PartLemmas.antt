@@ -5,7 +5,7 @@ use Rattle.std.specs.Option.{is_some}
 use Rattle.std.specs.List.{position}
 use Rattle.std.proofs.lemmas.List.Splits.{slice_split_none}
 use Rattle.gft_base.specs.Words.{parts_at, Lacks, IsNumber}
-use Rattle.gft_base.proofs.Lemmas.{part_alone, parts_join, position-None, position-none_from, IsNumber-decimal}
+use Rattle.gft_base.proofs.Lemmas.{part_alone, parts_join, position-None, position-none_from, IsNumber-decimal, IsNumber-one}
 use Rattle.gft_opts.specs.Word.{IsWord}
 use Rattle.gft_opts.specs.Part.{FitsEret, FitsEsto, IsEret, IsEsto, IsOffset, IsPath, eret_text, esto_text}
 use Rattle.gft_opts.specs.declared.part.Eret.{Eret}
@@ -129,3 +129,34 @@ esto_written esto fits =
       path_is = refl;
       name = fits.path;
     })
+
+-- ---- one value, which fits
+
+pub eret_one : (text : List ℕ) (a b : Eret) → IsEret text a → IsEret text b → a ≡ b
+eret_one text a b of_a of_b =
+    let words = sym of_a.words ∙ of_b.words in
+    let offset_text : of_a.offset ≡ of_b.offset = cc words in
+    let size_text : of_a.size ≡ of_b.size = cc words in
+    let path : a.path ≡ b.path = cc words in
+    let offset = IsNumber-one of_b.offset a.offset b.offset (rw (← offset_text) of_a.offset_is.number) of_b.offset_is.number in
+    let size = IsNumber-one of_b.size a.size b.size (rw (← size_text) of_a.size_is) of_b.size_is in
+    let with_offset : ℕ → Eret = λ o. record { offset = o; size = a.size; path = a.path } in
+    let with_size : ℕ → Eret = λ s. record { offset = b.offset; size = s; path = a.path } in
+    let with_path : List ℕ → Eret = λ p. record { offset = b.offset; size = b.size; path = p } in
+    ap with_offset offset ∙ ap with_size size ∙ ap with_path path
+
+pub esto_one : (text : List ℕ) (a b : Esto) → IsEsto text a → IsEsto text b → a ≡ b
+esto_one text a b of_a of_b =
+    let words = sym of_a.words ∙ of_b.words in
+    let offset_text : of_a.offset ≡ of_b.offset = cc words in
+    let path : a.path ≡ b.path = cc words in
+    let offset = IsNumber-one of_b.offset a.offset b.offset (rw (← offset_text) of_a.offset_is.number) of_b.offset_is.number in
+    let with_offset : ℕ → Esto = λ o. record { offset = o; path = a.path } in
+    let with_path : List ℕ → Esto = λ p. record { offset = b.offset; path = p } in
+    ap with_offset offset ∙ ap with_path path
+
+pub eret_fits : (text : List ℕ) (eret : Eret) → IsEret text eret → FitsEret eret
+eret_fits text eret is = record { offset = is.offset_is.limited; size = is.size_is.fits; path = is.path_is }
+
+pub esto_fits : (text : List ℕ) (esto : Esto) → IsEsto text esto → FitsEsto esto
+esto_fits text esto is = record { offset = is.offset_is.limited; path = is.path_is }

@@ -2,7 +2,7 @@
 use Rattle.gft_opts.specs.declared.error.OptsError.{OptsError}
 use Rattle.gft_opts.specs.declared.error.OptsError.TheVariants.{BadParameter, OutOfMemory}
 
--- the text has no value; want of memory says nothing of the text
-abbrev pub Refuses : Type 0 → OptsError → Type 0
-Refuses none BadParameter = none
-Refuses none OutOfMemory = Unit {0}
+-- the text has no value; or memory was refused to a text that could have one
+abbrev pub RefusesOption : Type 0 → Type 0 → OptsError → Type 0
+RefusesOption none could BadParameter = none
+RefusesOption none could OutOfMemory = could

@@ -1,6 +1,6 @@
 ghost use Rattle.std.specs.Prelude.{◌≡◌, ◌↔◌, ℕ, IsTrue, IfOk, IfErr, MatchOption};
 ghost use Rattle.gft_opts.specs.Part.{FitsEret, FitsEsto, IsEret, IsEsto, IsOffset, IsPath, eret_text, esto_text};
-ghost use Rattle.gft_opts.specs.Refusal.{Refuses};
+ghost use Rattle.gft_opts.specs.Refusal.{RefusesOption};
 ghost use Rattle.gft_opts.specs.declared.part.Eret.{Eret};
 ghost use Rattle.gft_opts.specs.declared.part.Esto.{Esto};
 
@@ -31,10 +31,11 @@ pub struct Esto {
 
 /// Reads `P offset size name` (GFD.20, ERET): four words with one space between them, `P` in
 /// either letter case. The offset is at most 2^48 - 1. The name is any bytes without a space; its
-/// copy is the one allocation. `BadParameter` where the text is none.
+/// copy is the one allocation. `BadParameter` if the text is none, and `OutOfMemory` only if it is one.
 pub fn read_eret(alloc: Global, text: &[u8]) -> Result<Eret, OptsError>
     ensures part { IfOk result (IsEret text.now) }
-    ensures none { IfErr result (Refuses ((eret : Eret) → ¬ IsEret text.now eret)) }
+    ensures none { IfErr result (RefusesOption ((eret : Eret) → ¬ IsEret text.now eret)
+        ((eret : Eret) × IsEret text.now eret)) }
 {
     let Some((offset, size, path)) = eret_words(text) else {
         return Err(OptsError::BadParameter);
@@ -64,10 +65,11 @@ fn eret_words(text: &[u8]) -> Option<(u64, u64, &[u8])>
 
 /// Reads `A offset name` (GFD.20, ESTO): three words with one space between them, `A` in either
 /// letter case. The offset is at most 2^48 - 1. The name is any bytes without a space; its copy is
-/// the one allocation. `BadParameter` where the text is none.
+/// the one allocation. `BadParameter` if the text is none, and `OutOfMemory` only if it is one.
 pub fn read_esto(alloc: Global, text: &[u8]) -> Result<Esto, OptsError>
     ensures part { IfOk result (IsEsto text.now) }
-    ensures none { IfErr result (Refuses ((esto : Esto) → ¬ IsEsto text.now esto)) }
+    ensures none { IfErr result (RefusesOption ((esto : Esto) → ¬ IsEsto text.now esto)
+        ((esto : Esto) × IsEsto text.now esto)) }
 {
     let Some((offset, path)) = esto_words(text) else {
         return Err(OptsError::BadParameter);

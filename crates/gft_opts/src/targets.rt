@@ -1,6 +1,7 @@
-ghost use Rattle.std.specs.Prelude.{◌≡◌, List, IfOk, IfErr};
+ghost use Rattle.std.specs.Prelude.{◌≡◌, ◌≤◌, List, length, IfOk, IfErr};
+ghost use Rattle.gft_base.specs.Words.{parts_at, space};
 ghost use Rattle.gft_text.specs.declared.HostPort.{HostPort};
-ghost use Rattle.gft_opts.specs.Refusal.{Refuses};
+ghost use Rattle.gft_opts.specs.Refusal.{RefusesOption};
 ghost use Rattle.gft_opts.specs.Targets.{FitsTargets, IsTargets, targets_text};
 
 use crate::MAX_TARGETS;
@@ -11,11 +12,13 @@ use gft_text::{read_host_port, write_host_port};
 use std::alloc::Global;
 
 /// Reads the targets of a transfer (GFD.20, SPOR): 1 to 16 addresses `h1,h2,h3,h4,p1,p2`, with one
-/// space between them. It allocates once, for all of them. `BadParameter` where the text is none.
+/// space between them. It allocates once, for all of them. `BadParameter` if the text is none, and
+/// `OutOfMemory` only if it has at most 16 parts.
 pub fn read_targets(alloc: Global, text: &[u8]) -> Result<HostPorts, OptsError>
     ensures targets { IfOk result (IsTargets text.now) }
     ensures none { IfErr result
-        (Refuses ((targets : List HostPort) → ¬ IsTargets text.now targets)) }
+        (RefusesOption ((targets : List HostPort) → ¬ IsTargets text.now targets)
+        (length (parts_at space text.now) ≤ MAX_TARGETS)) }
 {
     let count = count_parts(text, b' ');
     if count > MAX_TARGETS {

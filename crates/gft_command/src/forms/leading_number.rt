@@ -1,32 +1,39 @@
-ghost use Rattle.std.specs.Prelude.{◌≡◌, ◌++◌, ℕ, decimal, MatchResult, IsTrue, OnOk};
-ghost use Rattle.gft_command.specs.Parameters.{IsLeadingNumber, IsShort, Refuses};
-
-use crate::error::CommandError;
-use crate::forms::number;
+use crate::forms::Form;
+use crate::forms::number::Number;
 use gft_base::{OutOfMemory, split_word};
+use gft_opts::OptsError;
 use std::alloc::Global;
 
 /// A number; then the end, or a space and anything.
-pub(crate) fn read(alloc: Global, text: &[u8]) -> Result<u64, CommandError>
-    ensures { MatchResult result (IsLeadingNumber text.now)
-        (Refuses ((number : ℕ) → ¬ IsLeadingNumber text.now number)) }
-{
-    let (first, _) = split_word(text, b' ');
-    number::read(alloc, first)
-}
+pub(crate) struct LeadingNumber;
 
-pub(crate) fn append(line: &mut Vec<u8>, number: &u64) -> Result<(), OutOfMemory>
-    ensures added { OnOk result (line.new.items ≡ line.old.items ++ decimal number.now) }
-    ensures read { OnOk result (IsLeadingNumber (decimal number.now) number.now) }
-    ensures short { OnOk result (IsShort (decimal number.now)) }
-{
-    number::append(line, number)?;
-    Ok(())
-}
+impl Form for LeadingNumber {
+    ghost use Rattle.std.specs.Prelude.{refl};
+    ghost use Rattle.gft_command.specs.Parameters.{LeadingNumber};
 
-/// Each number has a text.
-pub(crate) fn fits(_verb: &str, _number: &u64) -> bool
-    ensures { IsTrue result }
-{
-    true
+    type Value = u64;
+
+    ghost value_in = { LeadingNumber };
+
+    ghost sample = { LeadingNumber 0 };
+
+    fn blank(_alloc: Global) -> u64 {
+        0
+    }
+
+    fn read(alloc: Global, text: &[u8]) -> Result<u64, OptsError> {
+        let (first, _) = split_word(text, b' ');
+        Number::read(alloc, first)
+    }
+
+    fn append(line: &mut Vec<u8>, value: &u64) -> Result<(), OutOfMemory> {
+        Number::append(line, value)?;
+        Ok(())
+    }
+
+    fn fits(_verb: &str, _value: &u64) -> bool {
+        true
+    }
+
+    ghost is_spaced = { λ _. refl };
 }

@@ -1,4 +1,4 @@
-use Rattle.gft_command.proofs.WrittenLemmas.{sent}
+use Rattle.gft_command.proofs.RowLemmas.{sent}
 use Rattle.gft_command.proofs.command.Command.write.Goals as goal
 
 pub returns-clause-read_again : goal.returns-clause-read_again
