@@ -2,7 +2,8 @@
 use Rattle.std.proofs.Common.{◌≡◌, ℕ, List, [], ◌∷◌, ◌++◌, ◌-◌, ◌≤◌, length, take, drop, append_assoc, arith, get_or, refl, Option, Some, None, sym, ap, subst, ◌∙◌}
 use Rattle.std.specs.Option.{MatchOption}
 use Rattle.std.proofs.lemmas.List.{append_cancel_left, take_all}
-use Rattle.gft_mark.specs.Fields.{AreSpaces, BeginsApart, IsField, Skips, States}
+use Rattle.gft_base.specs.Words.{AreSpaces, space}
+use Rattle.gft_mark.specs.Fields.{BeginsApart, IsField, Skips, States}
 
 -- what stands behind the spaces is one text
 spaces-one : (s t u v : List ℕ) → AreSpaces s → AreSpaces t → BeginsApart u → BeginsApart v → s ++ u ≡ t ++ v → u ≡ v
@@ -19,17 +20,17 @@ pub Skips-one : (text a b : List ℕ) → Skips text a → Skips text b → a �
 Skips-one text a b is_a is_b =
     spaces-one is_a.spaces is_b.spaces a b is_a.blank is_b.blank is_a.apart is_b.apart (sym is_a.text_is ∙ is_b.text_is)
 
-spaces-push : (spaces : List ℕ) → AreSpaces spaces → AreSpaces (spaces ++ 32 ∷ [])
+spaces-push : (spaces : List ℕ) → AreSpaces spaces → AreSpaces (spaces ++ space ∷ [])
 spaces-push [] blank = (refl, tt)
 spaces-push (b ∷ spaces) blank = (blank.0, spaces-push spaces blank.1)
 
 -- one space more was passed
-pub spaces-more : (text spaces left : List ℕ) → 1 ≤ length left → get_or left 0 0 ≡ 32 → text ≡ spaces ++ left → AreSpaces spaces → (front : List ℕ) × (text ≡ front ++ take (length left - 1) (drop 1 left)) × AreSpaces front
-spaces-more text spaces [] some space is blank = absurd (omega (arith, some))
-spaces-more text spaces (b ∷ left) some space is blank =
+pub spaces-more : (text spaces left : List ℕ) → 1 ≤ length left → get_or left 0 0 ≡ space → text ≡ spaces ++ left → AreSpaces spaces → (front : List ℕ) × (text ≡ front ++ take (length left - 1) (drop 1 left)) × AreSpaces front
+spaces-more text spaces [] some first is blank = absurd (omega (arith, some))
+spaces-more text spaces (b ∷ left) some first is blank =
     let behind = take_all (length (b ∷ left) - 1) left (omega arith) in
-    let joined : (spaces ++ 32 ∷ []) ++ left ≡ spaces ++ b ∷ left = simp append_assoc (ap (λ n. spaces ++ n ∷ left) (sym space)) in
-    (spaces ++ 32 ∷ [], rw behind (is ∙ sym joined), spaces-push spaces blank)
+    let joined : (spaces ++ space ∷ []) ++ left ≡ spaces ++ b ∷ left = simp append_assoc (ap (λ n. spaces ++ n ∷ left) (sym first)) in
+    (spaces ++ space ∷ [], rw behind (is ∙ sym joined), spaces-push spaces blank)
 
 -- a text without the name states nothing under it
 pub IsField-none : (name line left value : List ℕ) → Skips line left → ((rest : List ℕ) → ¬ (left ≡ name ++ rest)) → ¬ IsField name line value
@@ -60,13 +61,13 @@ States-one name line IsValue m n one is_m is_n =
     one is_m.value m n is_m.reads (subst P (IsField-one name line is_n.value is_m.value is_n.field is_m.field) is_n.reads)
 
 -- a name, a space and a value state that value
-pub States-written : (name value : List ℕ) (IsValue : List ℕ → ℕ → Type 0) (n : ℕ) → BeginsApart (name ++ 32 ∷ value) → BeginsApart value → IsValue value n → States name IsValue (name ++ 32 ∷ value) n
+pub States-written : (name value : List ℕ) (IsValue : List ℕ → ℕ → Type 0) (n : ℕ) → BeginsApart (name ++ space ∷ value) → BeginsApart value → IsValue value n → States name IsValue (name ++ space ∷ value) n
 States-written name value IsValue n apart_name apart_value reads = record {
   value = value;
   field = record {
-    behind = 32 ∷ value;
+    behind = space ∷ value;
     named = record { spaces = []; text_is = refl; blank = tt; apart = apart_name };
-    valued = record { spaces = 32 ∷ []; text_is = refl; blank = (refl, tt); apart = apart_value };
+    valued = record { spaces = space ∷ []; text_is = refl; blank = (refl, tt); apart = apart_value };
   };
   reads = reads;
 }

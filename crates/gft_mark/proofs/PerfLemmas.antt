@@ -4,12 +4,13 @@ use Rattle.std.specs.Prelude.{codes, decimal}
 use Rattle.std.specs.List.{list_all}
 use Rattle.std.proofs.lemmas.Fmt.{length-decimal-le}
 use Rattle.std.proofs.lemmas.List.Elements.{All-append, All-cons}
-use Rattle.gft_base.specs.Words.{IsNumber, Lacks}
+use Rattle.gft_base.specs.Words.{IsNumber, Lacks, dot, line_feed}
 use Rattle.gft_base.proofs.Lemmas.{IsNumber-decimal, IsNumber-one}
 use Rattle.gft_text.proofs.Lemmas.{literal_lacks, decimal_lacks}
 use Rattle.gft_reply.specs.declared.Reply.{Reply}
-use Rattle.gft_reply.specs.Words.{Fits, IsWritable, written_line}
-use Rattle.gft_reply.proofs.Lemmas.{writable}
+use Rattle.gft_reply.specs.Words.{FitsReply}
+use Rattle.gft_reply.proofs.Lemmas.{FitsReply-short, IsLineText}
+use Rattle.gft_mark.specs.declared.TheConstants.{PERF_CODE}
 use Rattle.gft_mark.specs.declared.perf.Perf.{Perf}
 use Rattle.gft_mark.specs.Fields.{BeginsApart, IsShortNumber, IsTimestamp, States}
 use Rattle.gft_mark.specs.Markers.{FitsPerf, IsPerfMarker, perf_lines, timestamp_text}
@@ -18,7 +19,7 @@ use Rattle.gft_mark.proofs.ValueLemmas.{IsShortNumber-one, IsTimestamp-one, IsTi
 
 -- the reply of these lines
 abbrev pub perf_reply : Perf → Reply
-perf_reply perf = record { code = 112; lines = perf_lines perf }
+perf_reply perf = record { code = PERF_CODE; lines = perf_lines perf }
 
 IsShortNumber-decimal : (n : ℕ) → n < 2 ^ 16 → IsShortNumber (decimal n) n
 IsShortNumber-decimal n fits = record { number = IsNumber-decimal n (omega arith); fits = fits }
@@ -36,7 +37,7 @@ IsPerfMarker-written perf fits = record {
   ending = [];
   code = refl;
   lines = refl;
-  tenths = States-written (codes "Timestamp:") (timestamp_text perf.tenths) IsTimestamp perf.tenths (λ e. omega (arith, e)) (decimal-apart (perf.tenths / 10) (46 ∷ decimal (perf.tenths % 10)) (omega (arith, fits.tenths))) (IsTimestamp-text perf.tenths fits.tenths);
+  tenths = States-written (codes "Timestamp:") (timestamp_text perf.tenths) IsTimestamp perf.tenths (λ e. omega (arith, e)) (decimal-apart (perf.tenths / 10) (dot ∷ decimal (perf.tenths % 10)) (omega (arith, fits.tenths))) (IsTimestamp-text perf.tenths fits.tenths);
   stripe = States-written (codes "Stripe Index:") (decimal perf.stripe) IsShortNumber perf.stripe (λ e. omega (arith, e)) (apart-decimal perf.stripe (omega (arith, fits.stripe))) (IsShortNumber-decimal perf.stripe fits.stripe);
   bytes = States-written (codes "Stripe Bytes Transferred:") (decimal perf.bytes) IsNumber perf.bytes (λ e. omega (arith, e)) (apart-decimal perf.bytes fits.bytes) (IsNumber-decimal perf.bytes fits.bytes);
   stripes = States-written (codes "Total Stripe Count:") (decimal perf.stripes) IsShortNumber perf.stripes (λ e. omega (arith, e)) (apart-decimal perf.stripes (omega (arith, fits.stripes))) (IsShortNumber-decimal perf.stripes fits.stripes);
@@ -48,49 +49,43 @@ pub decimal-short : (n : ℕ) → n < 2 ^ 64 → length (decimal n) ≤ 20
 decimal-short n fits = length-decimal-le 20 n (omega arith) (omega arith) fits
 
 -- a name and a value without an LF
-named-lacks : (name value : List ℕ) → list_all (λ b. not (eqb b 10)) name ≡ true → Lacks 10 value → Lacks 10 (name ++ value)
-named-lacks name value test lacks = All-append (λ b. eqb b 10 ≡ false) name value (literal_lacks 10 name test) lacks
+named-lacks : (name value : List ℕ) → list_all (λ b. not (eqb b line_feed)) name ≡ true → Lacks line_feed value → Lacks line_feed (name ++ value)
+named-lacks name value test lacks = All-append (λ b. eqb b line_feed ≡ false) name value (literal_lacks line_feed name test) lacks
 
-timestamp-lacks : (tenths : ℕ) → tenths < 2 ^ 64 → Lacks 10 (timestamp_text tenths)
+timestamp-lacks : (tenths : ℕ) → tenths < 2 ^ 64 → Lacks line_feed (timestamp_text tenths)
 timestamp-lacks tenths fits =
-    let P : ℕ → Type 0 = λ b. eqb b 10 ≡ false in
-    All-append P (decimal (tenths / 10)) (46 ∷ decimal (tenths % 10)) (decimal_lacks 10 (tenths / 10) (lit< tt) (omega arith)) (All-cons P 46 (decimal (tenths % 10)) refl (decimal_lacks 10 (tenths % 10) (lit< tt) (omega arith)))
+    let P : ℕ → Type 0 = λ b. eqb b line_feed ≡ false in
+    All-append P (decimal (tenths / 10)) (dot ∷ decimal (tenths % 10)) (decimal_lacks line_feed (tenths / 10) (lit< tt) (omega arith)) (All-cons P dot (decimal (tenths % 10)) refl (decimal_lacks line_feed (tenths % 10) (lit< tt) (omega arith)))
 
 timestamp-short : (tenths : ℕ) → tenths < 2 ^ 64 → length (timestamp_text tenths) ≤ 41
 timestamp-short tenths fits =
-    omega (arith, length-append (decimal (tenths / 10)) (46 ∷ decimal (tenths % 10)), decimal-short (tenths / 10) (omega arith), decimal-short (tenths % 10) (omega arith))
+    omega (arith, length-append (decimal (tenths / 10)) (dot ∷ decimal (tenths % 10)), decimal-short (tenths / 10) (omega arith), decimal-short (tenths % 10) (omega arith))
 
-inner-written : (name value : List ℕ) → list_all (λ b. not (eqb b 10)) name ≡ true → length name ≤ 100 → Lacks 10 value → length value ≤ 100 → IsWritable (written_line false false 112 (name ++ value))
-inner-written name value test name_short lacks value_short =
-    writable false false 112 1 (name ++ value) refl (named-lacks name value test lacks) (omega (arith, length-append name value))
+line-short : (name value : List ℕ) → list_all (λ b. not (eqb b line_feed)) name ≡ true → length name ≤ 100 → Lacks line_feed value → length value ≤ 100 → IsLineText (name ++ value)
+line-short name value test name_short lacks value_short = (named-lacks name value test lacks, omega (arith, length-append name value))
+
+number-line : (name : List ℕ) (n : ℕ) → list_all (λ b. not (eqb b line_feed)) name ≡ true → length name ≤ 100 → n < 2 ^ 64 → IsLineText (name ++ decimal n)
+number-line name n test name_short fits =
+    line-short name (decimal n) test name_short (decimal_lacks line_feed n (lit< tt) fits) (omega (arith, decimal-short n fits))
 
 -- the written marker has a text
-pub Fits-perf : (perf : Perf) → FitsPerf perf → Fits (perf_reply perf)
-Fits-perf perf fits = record {
-  least = omega arith;
-  most = omega arith;
-  some = omega arith;
-  few = omega arith;
-  lines = (
-    writable true false 112 4 (codes "Perf Marker") refl (literal_lacks 10 (codes "Perf Marker") refl) (omega arith),
+pub FitsReply-perf : (perf : Perf) → FitsPerf perf → FitsReply (perf_reply perf)
+FitsReply-perf perf fits = FitsReply-short (perf_reply perf) (omega arith) (omega arith) (omega arith) (omega arith) (
+  (literal_lacks line_feed (codes "Perf Marker") refl, omega arith),
+  (
+    line-short (codes "Timestamp: ") (timestamp_text perf.tenths) refl (omega arith) (timestamp-lacks perf.tenths fits.tenths) (omega (arith, timestamp-short perf.tenths fits.tenths)),
     (
-      inner-written (codes "Timestamp: ") (timestamp_text perf.tenths) refl (omega arith) (timestamp-lacks perf.tenths fits.tenths) (omega (arith, timestamp-short perf.tenths fits.tenths)),
+      number-line (codes "Stripe Index: ") perf.stripe refl (omega arith) (omega (arith, fits.stripe)),
       (
-        inner-written (codes "Stripe Index: ") (decimal perf.stripe) refl (omega arith) (decimal_lacks 10 perf.stripe (lit< tt) (omega (arith, fits.stripe))) (omega (arith, decimal-short perf.stripe (omega (arith, fits.stripe)))),
+        number-line (codes "Stripe Bytes Transferred: ") perf.bytes refl (omega arith) fits.bytes,
         (
-          inner-written (codes "Stripe Bytes Transferred: ") (decimal perf.bytes) refl (omega arith) (decimal_lacks 10 perf.bytes (lit< tt) fits.bytes) (omega (arith, decimal-short perf.bytes fits.bytes)),
-          (
-            inner-written (codes "Total Stripe Count: ") (decimal perf.stripes) refl (omega arith) (decimal_lacks 10 perf.stripes (lit< tt) (omega (arith, fits.stripes))) (omega (arith, decimal-short perf.stripes (omega (arith, fits.stripes)))),
-            (
-              writable false true 112 4 (codes "End") refl (literal_lacks 10 (codes "End") refl) (omega arith),
-              tt,
-            ),
-          ),
+          number-line (codes "Total Stripe Count: ") perf.stripes refl (omega arith) (omega (arith, fits.stripes)),
+          ((literal_lacks line_feed (codes "End") refl, omega arith), tt),
         ),
       ),
     ),
-  );
-}
+  ),
+)
 
 -- ---- one value
 
@@ -147,7 +142,7 @@ six_lines (a ∷ b ∷ c ∷ d ∷ e ∷ f ∷ []) six = refl
 six_lines (a ∷ b ∷ c ∷ d ∷ e ∷ f ∷ g ∷ lines) six = absurd (omega (arith, six))
 
 -- six lines that state a marker's values are one
-pub perf-read : (reply : Reply) (perf : Perf) (ending : List ℕ) → reply.code ≡ 112 → length reply.lines ≡ 6 → get_or reply.lines 0 [] ≡ codes "Perf Marker" → get_or reply.lines 5 [] ≡ codes "End" ++ ending → States (codes "Timestamp:") IsTimestamp (get_or reply.lines 1 []) perf.tenths → States (codes "Stripe Index:") IsShortNumber (get_or reply.lines 2 []) perf.stripe → States (codes "Stripe Bytes Transferred:") IsNumber (get_or reply.lines 3 []) perf.bytes → States (codes "Total Stripe Count:") IsShortNumber (get_or reply.lines 4 []) perf.stripes → IsPerfMarker reply perf
+pub perf-read : (reply : Reply) (perf : Perf) (ending : List ℕ) → reply.code ≡ PERF_CODE → length reply.lines ≡ 6 → get_or reply.lines 0 [] ≡ codes "Perf Marker" → get_or reply.lines 5 [] ≡ codes "End" ++ ending → States (codes "Timestamp:") IsTimestamp (get_or reply.lines 1 []) perf.tenths → States (codes "Stripe Index:") IsShortNumber (get_or reply.lines 2 []) perf.stripe → States (codes "Stripe Bytes Transferred:") IsNumber (get_or reply.lines 3 []) perf.bytes → States (codes "Total Stripe Count:") IsShortNumber (get_or reply.lines 4 []) perf.stripes → IsPerfMarker reply perf
 perf-read reply perf ending code six name end tenths stripe bytes stripes = record {
   timestamp = get_or reply.lines 1 [];
   index = get_or reply.lines 2 [];

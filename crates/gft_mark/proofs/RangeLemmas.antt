@@ -1,19 +1,20 @@
 -- Restart markers.
-use Rattle.std.proofs.Common.{◌≡◌, ℕ, ◌+◌, ◌*◌, ◌<◌, ◌≤◌, eqb, true, false, List, [], ◌∷◌, ◌++◌, length, length-append, get_or, refl, sym, ap, subst, inl, inr, ◌∙◌, lit<, arith}
+use Rattle.std.proofs.Common.{◌≡◌, ℕ, ◌+◌, ◌*◌, ◌<◌, ◌≤◌, eqb, false, List, [], ◌∷◌, ◌++◌, length, length-append, get_or, refl, sym, ap, subst, inl, inr, ◌∙◌, lit<, arith}
 use Rattle.std.specs.Prelude.{codes}
 use Rattle.std.proofs.lemmas.List.{append_cancel_left}
 use Rattle.gft_range.specs.declared.Range.{Range}
 use Rattle.std.specs.List.{AllByRecursion, AllZip, join_with_byte}
 use Rattle.std.proofs.lemmas.List.Elements.{All-append, All-cons, All-nil}
 use Rattle.std.proofs.lemmas.List.Splits.{join_with_byte-slice_split}
-use Rattle.gft_base.specs.Words.{IsNumber, Lacks, parts_at}
+use Rattle.gft_base.specs.Words.{IsNumber, Lacks, comma, dash, line_feed, parts_at}
 use Rattle.gft_base.proofs.Lemmas.{digits_apart, AllZip-length}
 use Rattle.gft_range.specs.Words.{IsItem, IsList, items_of}
 use Rattle.gft_range.proofs.Lemmas.{IsList-one}
 use Rattle.gft_reply.specs.declared.Reply.{Reply}
-use Rattle.gft_reply.specs.Words.{Fits}
-use Rattle.gft_reply.proofs.Lemmas.{writable}
+use Rattle.gft_reply.specs.Words.{FitsReply}
+use Rattle.gft_reply.proofs.Lemmas.{FitsReply-short}
 use Rattle.gft_text.proofs.Lemmas.{literal_lacks}
+use Rattle.gft_mark.specs.declared.TheConstants.{RANGE_CODE}
 use Rattle.gft_mark.specs.Markers.{IsRangeMarker}
 
 -- no reply is two restart markers
@@ -53,7 +54,7 @@ one_line (line ∷ []) one = refl
 one_line (line ∷ next ∷ lines) one = absurd (omega (arith, one))
 
 -- one line with the name and a list is a restart marker
-pub range-read : (reply : Reply) (text : List ℕ) (set : List Range) → reply.code ≡ 111 → length reply.lines ≡ 1 → get_or reply.lines 0 [] ≡ codes "Range Marker " ++ text → IsList text set → 0 < length set → IsRangeMarker reply set
+pub range-read : (reply : Reply) (text : List ℕ) (set : List Range) → reply.code ≡ RANGE_CODE → length reply.lines ≡ 1 → get_or reply.lines 0 [] ≡ codes "Range Marker " ++ text → IsList text set → 0 < length set → IsRangeMarker reply set
 range-read reply text set code one line list some = record {
   list = text;
   code = code;
@@ -66,14 +67,14 @@ range-read reply text set code one line list some = record {
 
 -- a short text without an LF
 abbrev pub IsShort : ℕ → List ℕ → Type 0
-IsShort most text = Lacks 10 text × (length text ≤ most)
+IsShort most text = Lacks line_feed text × (length text ≤ most)
 
 -- short texts joined by a separator
-joined-short : (separator most : ℕ) (texts : List (List ℕ)) → eqb separator 10 ≡ false → AllByRecursion (IsShort most) texts → IsShort (length texts * (most + 1)) (join_with_byte separator texts)
-joined-short separator most [] apart short = (All-nil (λ b. eqb b 10 ≡ false), omega arith)
+joined-short : (separator most : ℕ) (texts : List (List ℕ)) → eqb separator line_feed ≡ false → AllByRecursion (IsShort most) texts → IsShort (length texts * (most + 1)) (join_with_byte separator texts)
+joined-short separator most [] apart short = (All-nil (λ b. eqb b line_feed ≡ false), omega arith)
 joined-short separator most (text ∷ []) apart short = (short.0.0, omega (arith, short.0.1))
 joined-short separator most (text ∷ next ∷ texts) apart short =
-    let P : ℕ → Type 0 = λ b. eqb b 10 ≡ false in
+    let P : ℕ → Type 0 = λ b. eqb b line_feed ≡ false in
     let rest : List ℕ = join_with_byte separator (next ∷ texts) in
     let behind = joined-short separator most (next ∷ texts) apart short.1 in
     (All-append P text (separator ∷ rest) short.0.0 (All-cons P separator rest apart behind.0), omega (arith, length-append text (separator ∷ rest), short.0.1, behind.1))
@@ -86,7 +87,7 @@ zip-short R most short (text ∷ texts) [] all = absurd all
 zip-short R most short (text ∷ texts) (value ∷ values) all = (short text value all.0, zip-short R most short texts values all.1)
 
 -- a text whose parts have values is short
-parts-short : {B : Type 0} (R : List ℕ → B → Type 0) (separator most : ℕ) (text : List ℕ) (values : List B) → eqb separator 10 ≡ false → ((part : List ℕ) (value : B) → R part value → IsShort most part) → AllZip R (parts_at separator text) values → IsShort (length values * (most + 1)) text
+parts-short : {B : Type 0} (R : List ℕ → B → Type 0) (separator most : ℕ) (text : List ℕ) (values : List B) → eqb separator line_feed ≡ false → ((part : List ℕ) (value : B) → R part value → IsShort most part) → AllZip R (parts_at separator text) values → IsShort (length values * (most + 1)) text
 parts-short R separator most text values apart short all =
     let texts = joined-short separator most (parts_at separator text) apart (zip-short R most short (parts_at separator text) values all) in
     let P : List ℕ → Type 0 = λ joined. IsShort (length (parts_at separator text) * (most + 1)) joined in
@@ -95,38 +96,33 @@ parts-short R separator most text values apart short all =
     subst count (AllZip-length R (parts_at separator text) values all) whole
 
 number-short : (text : List ℕ) (n : ℕ) → IsNumber text n → IsShort 20 text
-number-short text n number = (digits_apart 10 text (lit< tt) number.digits, number.short)
+number-short text n number = (digits_apart line_feed text (lit< tt) number.digits, number.short)
 
 item-short : (text : List ℕ) (r : Range) → IsItem text r → IsShort 42 text
 item-short text r item = elim item [
-  | inl two ↦ let all = parts-short IsNumber 45 20 text (r.start ∷ r.end ∷ []) refl number-short two.0 in (all.0, omega (arith, all.1))
-  | inr one ↦ let all = parts-short IsNumber 45 20 text (r.end ∷ []) refl number-short one.0 in (all.0, omega (arith, all.1))
+  | inl two ↦ let all = parts-short IsNumber dash 20 text (r.start ∷ r.end ∷ []) refl number-short two.0 in (all.0, omega (arith, all.1))
+  | inr one ↦ let all = parts-short IsNumber dash 20 text (r.end ∷ []) refl number-short one.0 in (all.0, omega (arith, all.1))
 ]
 
 -- a text of 512 items at most
 pub list-short : (text : List ℕ) (set : List Range) → IsList text set → IsShort 22016 text
 list-short text set list =
-    let all = parts-short IsItem 44 42 text list.items refl item-short list.read in
+    let all = parts-short IsItem comma 42 text list.items refl item-short list.read in
     (all.0, omega (arith, all.1, AllZip-length IsItem (items_of text) list.items list.read, list.few))
 
 -- ---- what is written
 
 -- the reply of this line
 abbrev pub range_reply : List ℕ → Reply
-range_reply list = record { code = 111; lines = (codes "Range Marker " ++ list) ∷ [] }
+range_reply list = record { code = RANGE_CODE; lines = (codes "Range Marker " ++ list) ∷ [] }
 
 pub IsRangeMarker-written : (list : List ℕ) (ranges : List Range) → IsList list ranges → 0 < length ranges → IsRangeMarker (range_reply list) ranges
 IsRangeMarker-written list ranges is some = record { list = list; code = refl; lines = refl; read = is; some = some }
 
 -- the written marker has a text
-pub Fits-range : (list : List ℕ) (ranges : List Range) → IsList list ranges → Fits (range_reply list)
-Fits-range list ranges is =
+pub FitsReply-range : (list : List ℕ) (ranges : List Range) → IsList list ranges → FitsReply (range_reply list)
+FitsReply-range list ranges is =
     let short = list-short list ranges is in
     let name : List ℕ = codes "Range Marker " in
-    record {
-      least = omega arith;
-      most = omega arith;
-      some = omega arith;
-      few = omega arith;
-      lines = (writable true true 111 4 (name ++ list) refl (All-append (λ b. eqb b 10 ≡ false) name list (literal_lacks 10 name refl) short.0) (omega (arith, short.1, length-append name list)), tt);
-    }
+    let lacks = All-append (λ b. eqb b line_feed ≡ false) name list (literal_lacks line_feed name refl) short.0 in
+    FitsReply-short (range_reply list) (omega arith) (omega arith) (omega arith) (omega arith) ((lacks, omega (arith, short.1, length-append name list)), tt)

@@ -4,7 +4,7 @@ use Rattle.std.specs.Fmt.{decimal}
 use Rattle.std.specs.Option.{MatchOption}
 use Rattle.std.proofs.lemmas.List.Splits.{slice_split_none}
 use Rattle.std.proofs.lemmas.Fmt.{decimal_digit}
-use Rattle.gft_base.specs.Words.{AreDigits, IsNumber, parts_at}
+use Rattle.gft_base.specs.Words.{AreDigits, IsNumber, dot, parts_at}
 use Rattle.gft_base.proofs.Lemmas.{IsNumber-decimal, IsNumber-one, digits_apart, number_part, part_alone, parts_join, parts_some}
 use Rattle.gft_mark.specs.Fields.{AreSeconds, AreTenths, BeginsApart, IsFraction, IsShortNumber, IsTimestamp}
 use Rattle.gft_mark.specs.Markers.{timestamp_text}
@@ -25,7 +25,7 @@ AreSeconds-one (whole ∷ parts) m n a b is_a is_b =
 
 pub IsTimestamp-one : (text : List ℕ) (m n : ℕ) → IsTimestamp text m → IsTimestamp text n → m ≡ n
 IsTimestamp-one text m n is_m is_n =
-    let same = AreSeconds-one (parts_at 46 text) is_m.seconds is_n.seconds is_m.tenth is_n.tenth is_m.parts is_n.parts in
+    let same = AreSeconds-one (parts_at dot text) is_m.seconds is_n.seconds is_m.tenth is_n.tenth is_m.parts is_n.parts in
     omega (arith, is_m.value, is_n.value, same.0, same.1)
 
 pub IsShortNumber-one : (text : List ℕ) (m n : ℕ) → IsShortNumber text m → IsShortNumber text n → m ≡ n
@@ -53,7 +53,7 @@ IsTimestamp-text tenths fits =
     record {
       seconds = seconds;
       tenth = tenth;
-      parts = rw (parts_join 46 (decimal seconds) (decimal tenth) (digits_apart 46 (decimal seconds) (lit< tt) whole.digits), number_part 46 (decimal tenth) tenth (lit< tt) last) (whole, fraction);
+      parts = rw (parts_join dot (decimal seconds) (decimal tenth) (digits_apart dot (decimal seconds) (lit< tt) whole.digits), number_part dot (decimal tenth) tenth (lit< tt) last) (whole, fraction);
       value = omega arith;
       fits = fits;
     }
@@ -61,39 +61,39 @@ IsTimestamp-text tenths fits =
 -- ---- what is read
 
 -- digits alone are one part
-fraction_alone : (text : List ℕ) (tenth : ℕ) → IsFraction text tenth → parts_at 46 text ≡ text ∷ []
+fraction_alone : (text : List ℕ) (tenth : ℕ) → IsFraction text tenth → parts_at dot text ≡ text ∷ []
 fraction_alone [] tenth fraction = absurd fraction
 fraction_alone (digit ∷ digits) tenth fraction =
-    slice_split_none (λ b. eqb b 46) (digit ∷ digits) (digits_apart 46 (digit ∷ digits) (lit< tt) fraction.0)
+    slice_split_none (λ b. eqb b dot) (digit ∷ digits) (digits_apart dot (digit ∷ digits) (lit< tt) fraction.0)
 
-tenths-fraction : (text : List ℕ) (tenth : ℕ) → IsFraction text tenth → AreTenths (parts_at 46 text) tenth
+tenths-fraction : (text : List ℕ) (tenth : ℕ) → IsFraction text tenth → AreTenths (parts_at dot text) tenth
 tenths-fraction text tenth fraction = rw (fraction_alone text tenth fraction) fraction
 
-one_fraction : (text : List ℕ) (parts : List (List ℕ)) (tenth : ℕ) → parts_at 46 text ≡ parts → 0 < length parts → AreTenths parts tenth → IsFraction text tenth
+one_fraction : (text : List ℕ) (parts : List (List ℕ)) (tenth : ℕ) → parts_at dot text ≡ parts → 0 < length parts → AreTenths parts tenth → IsFraction text tenth
 one_fraction text [] tenth same some tenths = absurd (omega (arith, some))
-one_fraction text (fraction ∷ []) tenth same some tenths = rw (part_alone 46 text fraction same) tenths
+one_fraction text (fraction ∷ []) tenth same some tenths = rw (part_alone dot text fraction same) tenths
 one_fraction text (fraction ∷ part ∷ parts) tenth same some tenths = absurd tenths
 
-fraction-tenths : (text : List ℕ) (tenth : ℕ) → AreTenths (parts_at 46 text) tenth → IsFraction text tenth
-fraction-tenths text tenth tenths = one_fraction text (parts_at 46 text) tenth refl (parts_some 46 text) tenths
+fraction-tenths : (text : List ℕ) (tenth : ℕ) → AreTenths (parts_at dot text) tenth → IsFraction text tenth
+fraction-tenths text tenth tenths = one_fraction text (parts_at dot text) tenth refl (parts_some dot text) tenths
 
 -- what is read of a fraction
-pub fraction-read : (text : List ℕ) (answer : Option ℕ) → MatchOption answer ((n : ℕ) → ¬ IsFraction text n) (λ n. IsFraction text n × (n < 10)) → MatchOption answer ((n : ℕ) → ¬ AreTenths (parts_at 46 text) n) (λ n. AreTenths (parts_at 46 text) n × (n < 10))
+pub fraction-read : (text : List ℕ) (answer : Option ℕ) → MatchOption answer ((n : ℕ) → ¬ IsFraction text n) (λ n. IsFraction text n × (n < 10)) → MatchOption answer ((n : ℕ) → ¬ AreTenths (parts_at dot text) n) (λ n. AreTenths (parts_at dot text) n × (n < 10))
 fraction-read text None none = λ n tenths. none n (fraction-tenths text n tenths)
 fraction-read text (Some n) read = (tenths-fraction text n read.0, read.1)
 
 -- the parts of a text that is a timestamp
-pub timestamp-parts : (text whole : List ℕ) (parts : List (List ℕ)) (tenths : ℕ) → parts_at 46 text ≡ whole ∷ parts → IsTimestamp text tenths → (seconds : ℕ) × (tenth : ℕ) × IsNumber whole seconds × AreTenths parts tenth × (tenths ≡ 10 * seconds + tenth) × (tenths < 2 ^ 64)
+pub timestamp-parts : (text whole : List ℕ) (parts : List (List ℕ)) (tenths : ℕ) → parts_at dot text ≡ whole ∷ parts → IsTimestamp text tenths → (seconds : ℕ) × (tenth : ℕ) × IsNumber whole seconds × AreTenths parts tenth × (tenths ≡ 10 * seconds + tenth) × (tenths < 2 ^ 64)
 timestamp-parts text whole parts tenths same is =
     let all : AreSeconds (whole ∷ parts) is.seconds is.tenth = rw same at is.parts in
     (is.seconds, is.tenth, all.0, all.1, is.value, is.fits)
 
-pub parts-timestamp : (text whole : List ℕ) (parts : List (List ℕ)) (seconds tenth tenths : ℕ) → parts_at 46 text ≡ whole ∷ parts → IsNumber whole seconds → AreTenths parts tenth → tenths ≡ 10 * seconds + tenth → tenths < 2 ^ 64 → IsTimestamp text tenths
+pub parts-timestamp : (text whole : List ℕ) (parts : List (List ℕ)) (seconds tenth tenths : ℕ) → parts_at dot text ≡ whole ∷ parts → IsNumber whole seconds → AreTenths parts tenth → tenths ≡ 10 * seconds + tenth → tenths < 2 ^ 64 → IsTimestamp text tenths
 parts-timestamp text whole parts seconds tenth tenths same number fraction value fits =
     record { seconds = seconds; tenth = tenth; parts = rw same (number, fraction); value = value; fits = fits }
 
 -- a text whose number and tenth are known is no other timestamp
-pub timestamp-is : (text whole : List ℕ) (parts : List (List ℕ)) (seconds tenth tenths : ℕ) → parts_at 46 text ≡ whole ∷ parts → IsNumber whole seconds → AreTenths parts tenth → IsTimestamp text tenths → (tenths ≡ 10 * seconds + tenth) × (tenths < 2 ^ 64)
+pub timestamp-is : (text whole : List ℕ) (parts : List (List ℕ)) (seconds tenth tenths : ℕ) → parts_at dot text ≡ whole ∷ parts → IsNumber whole seconds → AreTenths parts tenth → IsTimestamp text tenths → (tenths ≡ 10 * seconds + tenth) × (tenths < 2 ^ 64)
 timestamp-is text whole parts seconds tenth tenths same number fraction is =
     let all = timestamp-parts text whole parts tenths same is in
     let s = IsNumber-one whole all.0 seconds all.2 number in

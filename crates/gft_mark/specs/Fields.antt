@@ -1,15 +1,10 @@
 -- How a line of a performance marker states a value (GFD.20, performance markers).
 use Rattle.std.specs.Prelude.{◌≡◌, ◌≢◌, ℕ, ◌+◌, ◌-◌, ◌*◌, ◌<◌, ◌^◌, List, [], ◌∷◌, ◌++◌, slice_index}
-use Rattle.std.specs.List.{AllByRecursion}
-use Rattle.gft_base.specs.Words.{AreDigits, IsNumber, parts_at}
-
--- nothing but spaces
-abbrev pub AreSpaces : List ℕ → Type 0
-AreSpaces = AllByRecursion (λ b. b ≡ 32)
+use Rattle.gft_base.specs.Words.{AreDigits, AreSpaces, IsNumber, digit_zero, dot, parts_at, space}
 
 -- the text doesn't begin with a space
 abbrev pub BeginsApart : List ℕ → Type 0
-BeginsApart text = slice_index text 0 ≢ 32
+BeginsApart text = slice_index text 0 ≢ space
 
 -- any number of spaces, and the rest, which doesn't begin with one
 pub record Skips (text rest : List ℕ) : Type 0 where
@@ -38,7 +33,7 @@ pub record IsShortNumber (text : List ℕ) (n : ℕ) : Type 0 where
 -- one digit or more, the first of which counts tenths
 abbrev pub IsFraction : List ℕ → ℕ → Type 0
 IsFraction [] tenth = ⊥
-IsFraction (digit ∷ digits) tenth = AreDigits (digit ∷ digits) × (tenth ≡ digit - 48)
+IsFraction (digit ∷ digits) tenth = AreDigits (digit ∷ digits) × (tenth ≡ digit - digit_zero)
 
 -- nothing, or one fraction
 abbrev pub AreTenths : List (List ℕ) → ℕ → Type 0
@@ -55,6 +50,6 @@ AreSeconds (whole ∷ parts) seconds tenth = IsNumber whole seconds × AreTenths
 pub record IsTimestamp (text : List ℕ) (tenths : ℕ) : Type 0 where
   pub seconds : ℕ
   pub tenth : ℕ
-  pub parts : AreSeconds (parts_at 46 text) seconds tenth
+  pub parts : AreSeconds (parts_at dot text) seconds tenth
   pub value : tenths ≡ 10 * seconds + tenth
   pub fits : tenths < 2 ^ 64

@@ -18,3 +18,14 @@ pub use laws::markers_have_one_value;
 pub use marker::{Marker, MarkerError, read_marker};
 pub use perf::{Perf, perf_marker};
 pub use range::range_marker;
+
+/// The code of a restart marker.
+pub const RANGE_CODE: u16 = 111;
+
+/// The code of a performance marker.
+pub const PERF_CODE: u16 = 112;
+
+// The definitions cite the names: their numbers are pinned here.
+const _: () = prove!(RANGE_CODE == 111);
+
+const _: () = prove!(PERF_CODE == 112);

@@ -1,5 +1,5 @@
 ghost use Rattle.std.specs.Prelude.{◌≡◌, ℕ, Err, IfOk};
-ghost use Rattle.gft_mark.specs.Markers.{IsMarker};
+ghost use Rattle.gft_mark.specs.Markers.{HasFewItems, IsMarker};
 ghost use Rattle.gft_mark.specs.declared.marker.Marker.{Marker};
 
 use crate::perf::{Perf, read_perf};
@@ -29,17 +29,21 @@ pub enum MarkerError {
 }
 
 /// Reads a marker (GFD.20): a restart marker, of code 111 and one line, or a performance marker, of
-/// code 112 and six lines. A restart marker has at most 512 items, and names an offset.
+/// code 112 and six lines. A restart marker has at most `MAX_ITEMS` items, and names an
+/// offset.
 ///
 /// In a performance marker any number of spaces may stand at the beginning of the four inner lines
 /// and behind their colons, and any text behind the `End` of the last line. Its timestamp is a number
 /// alone, or has a point and one digit or more; what follows the first of them is left out.
 ///
-/// `NotAMarker` where the reply is neither, or a value is too great for its field; `OutOfMemory`
-/// when the set can't be allocated.
+/// `NotAMarker` if the reply is neither, or a value is too great for its field; `OutOfMemory`, which
+/// one line of a restart marker's name and at most `MAX_ITEMS` items alone can give, if the set can't
+/// be allocated.
 pub fn read_marker(alloc: Global, reply: &Reply) -> Result<Marker, MarkerError>
     ensures marker { IfOk result (IsMarker reply.now) }
-    ensures none { result ≡ Err MarkerError.NotAMarker → (marker : Marker) → ¬ IsMarker reply.now marker }
+    ensures none { result ≡ Err MarkerError.NotAMarker →
+        (marker : Marker) → ¬ IsMarker reply.now marker }
+    ensures memory { result ≡ Err MarkerError.OutOfMemory → HasFewItems reply.now }
 {
     if let Some(perf) = read_perf(reply) {
         return Ok(Marker::Perf(perf));

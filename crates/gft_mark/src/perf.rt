@@ -1,15 +1,13 @@
 ghost use Rattle.std.specs.Prelude.{◌≡◌, IfOk, MatchOption};
 ghost use Rattle.gft_mark.specs.Markers.{IsPerfMarker, perf_lines};
 ghost use Rattle.gft_mark.specs.declared.perf.Perf.{Perf};
-ghost use Rattle.gft_reply.specs.Words.{Fits};
+ghost use Rattle.gft_reply.specs.Words.{FitsReply};
 
+use crate::PERF_CODE;
 use crate::field::{line_at, stated_number, stated_short, stated_tenths};
 use gft_base::{OutOfMemory, strip_front};
 use gft_reply::{Reply, ReplyLines};
 use std::alloc::Global;
-
-/// The code of a performance marker.
-const PERF_CODE: u16 = 112;
 
 /// How far one stripe of a transfer has come.
 #[derive(Clone, Copy, Debug, PartialEq, Eq)]
@@ -25,12 +23,12 @@ pub struct Perf {
 }
 
 /// The performance marker of these values (GFD.20): a reply of code 112 and six lines. It fits.
-/// `OutOfMemory` when it can't be allocated.
+/// `OutOfMemory` if it can't be allocated.
 pub fn perf_marker(alloc: Global, perf: &Perf) -> Result<Reply, OutOfMemory>
-    ensures code { IfOk result (λ reply. reply.code ≡ 112) }
+    ensures code { IfOk result (λ reply. reply.code ≡ PERF_CODE) }
     ensures lines { IfOk result (λ reply. reply.lines ≡ perf_lines perf.now) }
     ensures read_again { IfOk result (λ reply. IsPerfMarker reply perf.now) }
-    ensures fits { IfOk result Fits }
+    ensures fits { IfOk result FitsReply }
 {
     let Perf {
         tenths,
@@ -58,7 +56,8 @@ pub fn perf_marker(alloc: Global, perf: &Perf) -> Result<Reply, OutOfMemory>
 
 /// The values of a performance marker.
 pub(crate) fn read_perf(reply: &Reply) -> Option<Perf>
-    ensures { MatchOption result ((perf : Perf) → ¬ IsPerfMarker reply.now perf) (IsPerfMarker reply.now) }
+    ensures { MatchOption result ((perf : Perf) → ¬ IsPerfMarker reply.now perf)
+        (IsPerfMarker reply.now) }
 {
     let lines = &reply.lines;
     if reply.code != PERF_CODE || lines.count() != 6 {

@@ -1,8 +1,9 @@
-ghost use Rattle.std.specs.Prelude.{◌≡◌, ◌<◌, ℕ, List, [], ◌∷◌, Err, IfOk, length, take};
+ghost use Rattle.std.specs.Prelude.{◌≡◌, ◌≢◌, ◌<◌, ℕ, List, [], ◌∷◌, Err, IfOk, length, take};
 ghost use Rattle.gft_range.specs.declared.Range.{Range};
-ghost use Rattle.gft_mark.specs.Markers.{IsRangeMarker, range_marker_text};
-ghost use Rattle.gft_reply.specs.Words.{Fits};
+ghost use Rattle.gft_mark.specs.Markers.{HasFewItems, IsRangeMarker, range_marker_text};
+ghost use Rattle.gft_reply.specs.Words.{FitsReply};
 
+use crate::RANGE_CODE;
 use crate::field::line_at;
 use crate::marker::MarkerError;
 use gft_base::{OutOfMemory, strip_front};
@@ -10,17 +11,15 @@ use gft_range::{ListError, MAX_ITEMS, RangeSet};
 use gft_reply::{Reply, ReplyLines};
 use std::alloc::Global;
 
-/// The code of a restart marker.
-const RANGE_CODE: u16 = 111;
-
-/// The restart marker of the first 512 ranges of a set that isn't empty (GFD.20): a reply of code
-/// 111 and one line. It fits. `OutOfMemory` when it can't be allocated.
+/// The restart marker of the first `MAX_ITEMS` ranges of a set that isn't empty (GFD.20): a reply of
+/// code 111 and one line. It fits. `OutOfMemory` if it can't be allocated.
 pub fn range_marker(alloc: Global, set: &RangeSet) -> Result<Reply, OutOfMemory>
     requires { 0 < length set.now.ranges }
-    ensures code { IfOk result (λ reply. reply.code ≡ 111) }
-    ensures lines { IfOk result (λ reply. reply.lines ≡ range_marker_text (take 512 set.now.ranges) ∷ []) }
-    ensures read_again { IfOk result (λ reply. IsRangeMarker reply (take 512 set.now.ranges)) }
-    ensures fits { IfOk result Fits }
+    ensures code { IfOk result (λ reply. reply.code ≡ RANGE_CODE) }
+    ensures lines { IfOk result (λ reply.
+        reply.lines ≡ range_marker_text (take MAX_ITEMS set.now.ranges) ∷ []) }
+    ensures read_again { IfOk result (λ reply. IsRangeMarker reply (take MAX_ITEMS set.now.ranges)) }
+    ensures fits { IfOk result FitsReply }
 {
     let named = set.first(MAX_ITEMS)?;
     let list = named.write_list()?;
@@ -37,7 +36,9 @@ pub fn range_marker(alloc: Global, set: &RangeSet) -> Result<Reply, OutOfMemory>
 /// The ranges of a restart marker.
 pub(crate) fn read_ranges(alloc: Global, reply: &Reply) -> Result<RangeSet, MarkerError>
     ensures ranges { IfOk result (λ set. IsRangeMarker reply.now set.ranges) }
-    ensures none { result ≡ Err MarkerError.NotAMarker → (ranges : List Range) → ¬ IsRangeMarker reply.now ranges }
+    ensures none { result ≡ Err MarkerError.NotAMarker →
+        (ranges : List Range) → ¬ IsRangeMarker reply.now ranges }
+    ensures memory { result ≡ Err MarkerError.OutOfMemory → HasFewItems reply.now }
 {
     if reply.code != RANGE_CODE || reply.lines.count() != 1 {
         return Err(MarkerError::NotAMarker);
@@ -53,10 +54,11 @@ pub(crate) fn read_ranges(alloc: Global, reply: &Reply) -> Result<RangeSet, Mark
     }
 }
 
-/// The set, where it isn't empty.
+/// The set, if it isn't empty.
 fn some_ranges(set: RangeSet) -> Result<RangeSet, MarkerError>
     ensures same { IfOk result (λ same. (same.ranges ≡ set.ranges) × (0 < length set.ranges)) }
     ensures none { result ≡ Err MarkerError.NotAMarker → length set.ranges ≡ 0 }
+    ensures memory { result ≢ Err MarkerError.OutOfMemory }
 {
     if set.count() == 0 {
         return Err(MarkerError::NotAMarker);

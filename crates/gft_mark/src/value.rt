@@ -1,5 +1,5 @@
 ghost use Rattle.std.specs.Prelude.{◌≡◌, ℕ, ◌<◌, MatchOption, ◌↔◌, IsTrue};
-ghost use Rattle.gft_base.specs.Words.{AreDigits, parts_left};
+ghost use Rattle.gft_base.specs.Words.{AreDigits, dot, parts_left};
 ghost use Rattle.std.specs.Option.{option_copied};
 ghost use Rattle.gft_mark.specs.Fields.{AreTenths, IsFraction, IsShortNumber, IsTimestamp};
 
@@ -15,10 +15,10 @@ pub(crate) fn read_tenths(text: &[u8]) -> Option<u64>
     seconds.checked_mul(10)?.checked_add(tenth)
 }
 
-/// The tenth that the fraction of a second begins with, or 0 where there is no fraction.
+/// The tenth that the fraction of a second begins with, or 0 if there is no fraction.
 fn read_tenth(fraction: Option<&[u8]>) -> Option<u64>
-    ensures { MatchOption result ((n : ℕ) → ¬ AreTenths (parts_left 46 (option_copied fraction.entry)) n)
-        (λ n. AreTenths (parts_left 46 (option_copied fraction.entry)) n × (n < 10)) }
+    ensures { MatchOption result ((n : ℕ) → ¬ AreTenths (parts_left dot (option_copied fraction.entry)) n)
+        (λ n. AreTenths (parts_left dot (option_copied fraction.entry)) n × (n < 10)) }
 {
     match fraction {
         Some(digits) => first_digit(digits),
@@ -26,9 +26,10 @@ fn read_tenth(fraction: Option<&[u8]>) -> Option<u64>
     }
 }
 
-/// The first digit, where there are digits alone.
+/// The first digit, if there are digits alone.
 fn first_digit(digits: &[u8]) -> Option<u64>
-    ensures { MatchOption result ((n : ℕ) → ¬ IsFraction digits.now n) (λ n. IsFraction digits.now n × (n < 10)) }
+    ensures { MatchOption result ((n : ℕ) → ¬ IsFraction digits.now n)
+        (λ n. IsFraction digits.now n × (n < 10)) }
 {
     let (first, _) = digits.split_first()?;
     if !are_digits(digits) {

@@ -5,7 +5,7 @@ use Rattle.std.specs.List.{list_all}
 use Rattle.std.proofs.lemmas.Bool.{not-true}
 use Rattle.std.proofs.lemmas.List.Elements.{All-append, All-cons}
 use Rattle.std.proofs.lemmas.List.Sums.{AllPass-from_list_all}
-use Rattle.gft_base.specs.Words.{Lacks}
+use Rattle.gft_base.specs.Words.{Lacks, digit_zero}
 use Rattle.gft_base.proofs.Lemmas.{IsNumber-decimal, digits_apart}
 
 -- a literal text is looked through
@@ -13,7 +13,7 @@ pub literal_lacks : (c : ℕ) (bs : List ℕ) → list_all (λ b. not (eqb b c))
 literal_lacks c bs all = λ k d lt. not-true _ (AllPass-from_list_all (λ b. not (eqb b c)) bs all k d lt)
 
 -- a number has no separator below the digits
-pub decimal_lacks : (c n : ℕ) → c < 48 → n < 2 ^ 64 → Lacks c (decimal n)
+pub decimal_lacks : (c n : ℕ) → c < digit_zero → n < 2 ^ 64 → Lacks c (decimal n)
 decimal_lacks c n below fits = digits_apart c (decimal n) below (IsNumber-decimal n fits).digits
 
 -- two texts with another separator between them

@@ -1,5 +1,5 @@
 use Rattle.std.proofs.Common.{◌≡◌, ℕ, List, ◌++◌, length}
-use Rattle.gft_mark.specs.Fields.{AreSpaces}
+use Rattle.gft_base.specs.Words.{AreSpaces}
 use Rattle.gft_mark.proofs.field.without_spaces.Given as goal
 
 abbrev pub invariant-loop-left : goal.invariant-loop-left
