@@ -13,10 +13,10 @@ use Rattle.gft_text.specs.Words.{folded, same_bytes}
 use Rattle.gft_text.proofs.Lemmas.{IsHostPort-one}
 use Rattle.gft_opts.proofs.Lemmas.{IsEret-fits, IsEret-one, IsEsto-fits, IsEsto-one, IsRetr-fits, IsRetr-one, IsTargets-fits, IsTargets-one}
 use Rattle.gft_command.specs.Commands.{IsSame, RefusesLine, RefusesText, SaysCommand, SaysNone, parameter_in}
-use Rattle.gft_command.specs.Parameters.{FitsBytes, FitsParameter, IsCapital, IsLetter, IsParameter, IsWritable, Parameter, TakesMemory, behind_verb}
+use Rattle.gft_command.specs.Parameters.{FitsBytes, FitsParameter, IsCapital, IsLetter, IsParameter, IsSendable, Parameter, TakesMemory, behind_verb}
 use Rattle.gft_command.specs.Parameters.{Nothing, Text, Letter, Number, LeadingNumber, Options, Address, Targets, Ranges, Part, Place}
-use Rattle.gft_command.specs.Table.{is_verb, value_of, verb_of}
-use Rattle.gft_command.specs.Telnet.{doubled, past_signals, telnet_escape, text_of, undoubled}
+use Rattle.gft_command.specs.Table.{is_verb, parameter_of, verb_of}
+use Rattle.gft_command.specs.Telnet.{doubled, past_signals, telnet_escape, telnet_text, undoubled}
 use Rattle.gft_command.specs.Written.{FitsCommand, text_for}
 use Rattle.gft_command.specs.declared.command.Command.{Command}
 use Rattle.gft_command.specs.declared.command.Command.TheVariants as commands
@@ -53,7 +53,7 @@ value_one text v w form a b = cc form
 pub one : (text : List ℕ) (c d : Command) → SaysCommand text c → SaysCommand text d → IsSame c d
 one text c d a b =
     let verbs = a.verb ∙ sym b.verb in
-    row_one c d verbs (value_one (parameter_in text) (value_of c) (value_of d) (one_form c d verbs) a.value b.value)
+    row_one c d verbs (value_one (parameter_in text) (parameter_of c) (parameter_of d) (one_form c d verbs) a.value b.value)
 
 -- a text that is a command is refused for want of memory alone
 pub taken : (text : List ℕ) (c : Command) (e : CommandError) → SaysCommand text c → RefusesText text e → e ≡ OutOfMemory
@@ -80,27 +80,27 @@ one_refusal text BadParameter OutOfMemory a b not_d not_e = absurd (not_e refl)
 
 -- ---- the same of lines
 
-text_refusal : (line : List ℕ) (e : CommandError) → RefusesLine line e → e ≢ OutOfMemory → RefusesText (text_of line) e
+text_refusal : (line : List ℕ) (e : CommandError) → RefusesLine line e → e ≢ OutOfMemory → RefusesText (telnet_text line) e
 text_refusal line UnknownVerb refused memory = refused
 text_refusal line MissingParameter refused memory = refused
 text_refusal line BadParameter refused memory = refused
 text_refusal line OutOfMemory refused memory = absurd (memory refl)
 
-pub line_refusal : (line : List ℕ) (e : CommandError) → RefusesText (text_of line) e → RefusesLine line e
+pub line_refusal : (line : List ℕ) (e : CommandError) → RefusesText (telnet_text line) e → RefusesLine line e
 line_refusal line UnknownVerb refused = refused
 line_refusal line MissingParameter refused = refused
 line_refusal line BadParameter refused = refused
 line_refusal line OutOfMemory refused = inl refused
 
-pub line_taken : (line : List ℕ) (c : Command) (e : CommandError) → SaysCommand (text_of line) c → RefusesLine line e → e ≡ OutOfMemory
-line_taken line c UnknownVerb is refused = taken (text_of line) c UnknownVerb is refused
-line_taken line c MissingParameter is refused = taken (text_of line) c MissingParameter is refused
-line_taken line c BadParameter is refused = taken (text_of line) c BadParameter is refused
+pub line_taken : (line : List ℕ) (c : Command) (e : CommandError) → SaysCommand (telnet_text line) c → RefusesLine line e → e ≡ OutOfMemory
+line_taken line c UnknownVerb is refused = taken (telnet_text line) c UnknownVerb is refused
+line_taken line c MissingParameter is refused = taken (telnet_text line) c MissingParameter is refused
+line_taken line c BadParameter is refused = taken (telnet_text line) c BadParameter is refused
 line_taken line c OutOfMemory is refused = refl
 
 pub one_line_refusal : (line : List ℕ) (d e : CommandError) → RefusesLine line d → RefusesLine line e → d ≢ OutOfMemory → e ≢ OutOfMemory → d ≡ e
 one_line_refusal line d e a b not_d not_e =
-    one_refusal (text_of line) d e (text_refusal line d a not_d) (text_refusal line e b not_e) not_d not_e
+    one_refusal (telnet_text line) d e (text_refusal line d a not_d) (text_refusal line e b not_e) not_d not_e
 
 -- ---- what fits
 
@@ -113,10 +113,10 @@ lacks_doubled (b ∷ bs) lacks = first (eqb b 255) lacks (lacks_doubled bs) wher
   first false all rest = All-cons (λ x. eqb x 10 ≡ false) b bs (all zero b (omega arith)) (rest (λ k d lt. all (suc k) d (omega (arith, lt))))
 
 -- what stands behind a verb and a space in a line that can be sent
-bytes_fit : (verb bytes : List ℕ) → is_verb verb ≡ true → IsWritable (doubled (verb ++ space ∷ bytes)) → FitsBytes verb bytes
+bytes_fit : (verb bytes : List ℕ) → is_verb verb ≡ true → IsSendable (doubled (verb ++ space ∷ bytes)) → FitsBytes verb bytes
 bytes_fit verb bytes is writable =
     let line : doubled (verb ++ space ∷ bytes) ≡ verb ++ space ∷ doubled bytes = doubled-append verb (space ∷ bytes) ∙ ap (λ (x : List ℕ). x ++ space ∷ doubled bytes) (verb_plain verb is) in
-    let spelt : IsWritable (verb ++ space ∷ doubled bytes) = rw line at writable in
+    let spelt : IsSendable (verb ++ space ∷ doubled bytes) = rw line at writable in
     let behind = lacks_behind verb (space ∷ doubled bytes) spelt.0 in
     (lacks_doubled bytes (λ k d lt. behind (suc k) d (omega (arith, lt))), omega (arith, spelt.1, length-append verb (space ∷ doubled bytes)))
 
@@ -129,7 +129,7 @@ letter_fits (b ∷ []) letter is = capital b letter is.0 is.1
 letter_fits (b ∷ c ∷ bs) letter is = capital b letter is.0 is.2
 
 -- a value that some text has fits, if its own line can be sent
-value_fits : (verb text : List ℕ) (v : Parameter) → is_verb verb ≡ true → IsParameter text v → IsWritable (doubled (verb ++ behind_verb v)) → FitsParameter verb v
+value_fits : (verb text : List ℕ) (v : Parameter) → is_verb verb ≡ true → IsParameter text v → IsSendable (doubled (verb ++ behind_verb v)) → FitsParameter verb v
 value_fits verb text Nothing is read writable = (tt, tt)
 value_fits verb text (Text x) is read writable = (omega (arith, read.0, ap length read.1), bytes_fit verb x is writable)
 value_fits verb text (Letter x) is read writable = (letter_fits text x read, tt)
@@ -146,5 +146,5 @@ verb_is : (c : Command) → is_verb (verb_of c) ≡ true
 verb_is commands.Quit = refl
 verb_is c = refl
 
-pub said_fits : (text : List ℕ) (c : Command) → SaysCommand text c → IsWritable (doubled (text_for c)) → FitsCommand c
-said_fits text c is writable = value_fits (verb_of c) (parameter_in text) (value_of c) (verb_is c) is.value writable
+pub said_fits : (text : List ℕ) (c : Command) → SaysCommand text c → IsSendable (doubled (text_for c)) → FitsCommand c
+said_fits text c is writable = value_fits (verb_of c) (parameter_in text) (parameter_of c) (verb_is c) is.value writable

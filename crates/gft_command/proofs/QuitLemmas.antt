@@ -14,8 +14,8 @@ use Rattle.gft_text.specs.Words.{folded, same_bytes}
 use Rattle.gft_text.proofs.Lemmas.{literal_lacks}
 use Rattle.gft_command.specs.Commands.{CouldTakeMemory, IsCommand, IsSame, RefusesLine, RefusesText, SaysCommand, parameter_in, verb_in}
 use Rattle.gft_command.specs.Parameters.{Nothing, Parameter, TakesMemory}
-use Rattle.gft_command.specs.Table.{value_of, verb_of}
-use Rattle.gft_command.specs.Telnet.{telnet_escape, text_of, undoubled}
+use Rattle.gft_command.specs.Table.{parameter_of, verb_of}
+use Rattle.gft_command.specs.Telnet.{telnet_escape, telnet_text, undoubled}
 use Rattle.gft_command.specs.declared.command.Command.{Command}
 use Rattle.gft_command.specs.declared.command.Command.TheVariants as commands
 use Rattle.gft_command.specs.declared.error.CommandError.{CommandError}
@@ -37,7 +37,7 @@ no_memory text v form takes = cc form
 
 quit_takes_none : (text : List ℕ) → SaysCommand text commands.Quit → CouldTakeMemory text → ⊥
 quit_takes_none text is could =
-    no_memory (parameter_in text) (value_of could.command) (one_form could.command commands.Quit (could.verb ∙ sym is.verb)) could.could
+    no_memory (parameter_in text) (parameter_of could.command) (one_form could.command commands.Quit (could.verb ∙ sym is.verb)) could.could
 
 quit_read : (text : List ℕ) (r : Result Command CommandError) → MatchResult r (SaysCommand text) (RefusesText text) → SaysCommand text commands.Quit → r ≡ Ok commands.Quit
 quit_read text (Ok c) read is = ap Ok (same_quit c (one text c commands.Quit read is))
@@ -46,9 +46,9 @@ quit_read text (Err e) refused is =
     absurd (quit_takes_none text is (rw memory at refused))
 
 -- what a text that was read says of its line
-pub line_read : (line text : List ℕ) (r : Result Command CommandError) → text ≡ text_of line → MatchResult r (SaysCommand text) (RefusesText text) → IfErr r (RefusesLine line) × (IsCommand line commands.Quit → r ≡ Ok commands.Quit)
-line_read line text r same read = (refused r (rw same at read), quit_read (text_of line) r (rw same at read)) where
-  refused : (q : Result Command CommandError) → MatchResult q (SaysCommand (text_of line)) (RefusesText (text_of line)) → IfErr q (RefusesLine line)
+pub line_read : (line text : List ℕ) (r : Result Command CommandError) → text ≡ telnet_text line → MatchResult r (SaysCommand text) (RefusesText text) → IfErr r (RefusesLine line) × (IsCommand line commands.Quit → r ≡ Ok commands.Quit)
+line_read line text r same read = (refused r (rw same at read), quit_read (telnet_text line) r (rw same at read)) where
+  refused : (q : Result Command CommandError) → MatchResult q (SaysCommand (telnet_text line)) (RefusesText (telnet_text line)) → IfErr q (RefusesLine line)
   refused (Ok c) is = tt
   refused (Err e) is = line_refusal line e is
 
@@ -62,9 +62,9 @@ folded_lacks : (text : List ℕ) → Lacks telnet_escape (folded text) → Lacks
 folded_lacks [] lacks = lacks
 folded_lacks (b ∷ bs) lacks =
     All-cons (λ x. eqb x 255 ≡ false) b bs (first (eqb b 255) refl (lacks zero b (omega arith))) (folded_lacks bs (λ k d lt. lacks (suc k) d (omega (arith, lt)))) where
-  first : (t : Bool) → eqb b 255 ≡ t → eqb (to_ascii_lowercase b) 255 ≡ false → eqb b 255 ≡ false
-  first true is low = let escape : b ≡ 255 = eqb-true b 255 is in cc (rw escape at low)
-  first false is low = is
+      first : (t : Bool) → eqb b 255 ≡ t → eqb (to_ascii_lowercase b) 255 ≡ false → eqb b 255 ≡ false
+      first true is low = let escape : b ≡ 255 = eqb-true b 255 is in cc (rw escape at low)
+      first false is low = is
 
 cut_lacks : (text : List ℕ) → Lacks telnet_escape (before_first (λ b. eqb b space) text) → Lacks telnet_escape (after_first (λ b. eqb b space) text) → Lacks telnet_escape text
 cut_lacks text front behind =
@@ -73,12 +73,12 @@ cut_lacks text front behind =
     let P : ℕ → Type 0 = λ x. eqb x 255 ≡ false in
     elim (cases_lt n (length text)) [
       | inl lt ↦
-        let here : get_or text n 0 ≡ space = eqb-true _ _ (passes_at_first p text 0 lt) in
-        let one_more : suc n ≡ n + 1 = omega arith in
-        let next : drop (suc n) text ≡ drop (n + 1) text = ap (λ (m : ℕ). drop m text) one_more in
-        let tail : drop n text ≡ space ∷ drop (n + 1) text = drop-cons text n 0 lt ∙ ap (λ (x : ℕ). x ∷ drop (suc n) text) here ∙ ap (λ (x : List ℕ). space ∷ x) next in
-        let whole : take n text ++ space ∷ drop (n + 1) text ≡ text = ap (λ (x : List ℕ). take n text ++ x) (sym tail) ∙ take-append-drop n text in
-        subst (λ (x : List ℕ). Lacks telnet_escape x) whole (All-append P (take n text) (space ∷ drop (n + 1) text) front (All-cons P space (drop (n + 1) text) refl behind))
+          let here : get_or text n 0 ≡ space = eqb-true _ _ (passes_at_first p text 0 lt) in
+          let one_more : suc n ≡ n + 1 = omega arith in
+          let next : drop (suc n) text ≡ drop (n + 1) text = ap (λ (m : ℕ). drop m text) one_more in
+          let tail : drop n text ≡ space ∷ drop (n + 1) text = drop-cons text n 0 lt ∙ ap (λ (x : ℕ). x ∷ drop (suc n) text) here ∙ ap (λ (x : List ℕ). space ∷ x) next in
+          let whole : take n text ++ space ∷ drop (n + 1) text ≡ text = ap (λ (x : List ℕ). take n text ++ x) (sym tail) ∙ take-append-drop n text in
+          subst (λ (x : List ℕ). Lacks telnet_escape x) whole (All-append P (take n text) (space ∷ drop (n + 1) text) front (All-cons P space (drop (n + 1) text) refl behind))
       | inr far ↦ rw (take_all n text far) at front
     ]
 
@@ -95,9 +95,9 @@ undoubled_lacks (b ∷ c ∷ bs) lacks =
     let here = first (eqb b 255 && eqb c 255) lacks in
     let rest : Lacks telnet_escape (b ∷ undoubled (c ∷ bs)) = rw (undoubled-cons b (c ∷ bs) here) at lacks in
     All-cons (λ x. eqb x 255 ≡ false) b (c ∷ bs) here (undoubled_lacks (c ∷ bs) (λ k d lt. rest (suc k) d (omega (arith, lt)))) where
-  first : (t : Bool) → Lacks telnet_escape (cond t (b ∷ undoubled bs) (b ∷ undoubled (c ∷ bs))) → eqb b 255 ≡ false
-  first true all = all zero b (omega arith)
-  first false all = all zero b (omega arith)
+      first : (t : Bool) → Lacks telnet_escape (cond t (b ∷ undoubled bs) (b ∷ undoubled (c ∷ bs))) → eqb b 255 ≡ false
+      first true all = all zero b (omega arith)
+      first false all = all zero b (omega arith)
 
 pub quit_plain : (line : List ℕ) → SaysCommand (undoubled line) commands.Quit → Lacks telnet_escape line
 quit_plain line is = undoubled_lacks line (quit_lacks (undoubled line) is)

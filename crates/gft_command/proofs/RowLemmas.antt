@@ -15,10 +15,10 @@ use Rattle.gft_text.specs.Words.{Line, folded, told}
 use Rattle.gft_text.specs.declared.TheConstants.{LINE_LIMIT}
 use Rattle.gft_text.proofs.Lemmas.{told-line, without_return}
 use Rattle.gft_command.specs.Commands.{SaysCommand, parameter_in, verb_in}
-use Rattle.gft_command.specs.Parameters.{FitsBytes, FitsParameter, IsCapital, IsParameter, IsShort, IsWritable, Parameter, behind_verb, options_text, parameter_text}
+use Rattle.gft_command.specs.Parameters.{FitsBytes, FitsParameter, IsCapital, IsParameter, IsShort, IsSendable, Parameter, behind_verb, options_text, parameter_text}
 use Rattle.gft_command.specs.Parameters.{Nothing, Text, Letter, Number, LeadingNumber, Options, Address, Targets, Ranges, Part, Place}
 use Rattle.gft_command.specs.Table.{is_verb, row, row_of}
-use Rattle.gft_command.specs.Telnet.{doubled, past_signals, telnet_escape, text_of, undoubled}
+use Rattle.gft_command.specs.Telnet.{doubled, past_signals, telnet_escape, telnet_text, undoubled}
 use Rattle.gft_command.specs.Written.{IsSentAs, IsTextOf}
 use Rattle.gft_command.specs.declared.command.Command.{Command}
 use Rattle.gft_command.proofs.PrintedLemmas.{brief_short, host_port_brief, list_brief, number_brief, options_brief, targets_brief}
@@ -141,7 +141,7 @@ value_text verb text v is same behind fits read =
 pub sent : (bytes text : List ℕ) (c : Command) → bytes ≡ doubled text ++ carriage_return ∷ line_feed ∷ [] → IsTextOf text (row_of c) → IsSentAs bytes c
 sent bytes text c bytes_are is =
     let line : List ℕ = doubled text in
-    let again : text_of line ≡ text = ap undoubled is.plain ∙ undoubled-doubled text in
+    let again : telnet_text line ≡ text = ap undoubled is.plain ∙ undoubled-doubled text in
     let says : SaysCommand text c = record { verb = is.verb; value = is.value } in
     record {
       line = line;

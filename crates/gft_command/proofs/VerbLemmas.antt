@@ -10,7 +10,7 @@ use Rattle.gft_text.proofs.Lemmas.{texts_apart}
 use Rattle.gft_command.specs.Commands.{IsSame}
 use Rattle.gft_command.specs.Parameters.{Parameter, TakesMemory}
 use Rattle.gft_command.specs.Parameters.{Nothing, Text, Letter, Number, LeadingNumber, Options, Address, Targets, Ranges, Part, Place}
-use Rattle.gft_command.specs.Table.{AreOthers, IsPlaceOf, value_of, verb_of}
+use Rattle.gft_command.specs.Table.{AreOthers, IsPlaceOf, parameter_of, verb_of}
 use Rattle.gft_command.specs.declared.command.Command.{Command}
 use Rattle.gft_command.specs.declared.command.Command.TheVariants as commands
 use Rattle.gft_command.specs.declared.command.TheConstants.{VERBS}
@@ -103,27 +103,27 @@ same_form a b = false
 abbrev same_verb : Command → Command → Bool
 same_verb c d = same_bytes (folded (verb_of c)) (folded (verb_of d))
 
-form_agrees : (c d : Command) → not (same_verb c d) || same_form (value_of c) (value_of d) ≡ true
+form_agrees : (c d : Command) → not (same_verb c d) || same_form (parameter_of c) (parameter_of d) ≡ true
 form_agrees commands.Quit commands.Quit = refl
 form_agrees commands.Quit d = refl
 form_agrees c commands.Quit = refl
 form_agrees c d = refl
 
 -- commands of one verb carry values of one form
-pub one_form : (c d : Command) → folded (verb_of c) ≡ folded (verb_of d) → same_form (value_of c) (value_of d) ≡ true
+pub one_form : (c d : Command) → folded (verb_of c) ≡ folded (verb_of d) → same_form (parameter_of c) (parameter_of d) ≡ true
 one_form c d same = here (same_verb c d) refl (form_agrees c d) where
-  here : (t : Bool) → same_verb c d ≡ t → not t || same_form (value_of c) (value_of d) ≡ true → same_form (value_of c) (value_of d) ≡ true
+  here : (t : Bool) → same_verb c d ≡ t → not t || same_form (parameter_of c) (parameter_of d) ≡ true → same_form (parameter_of c) (parameter_of d) ≡ true
   here true is agrees = agrees
   here false is agrees = absurd (texts_apart _ _ is same)
 
-row_same : (c d : Command) → same_verb c d ≡ true → value_of c ≡ value_of d → IsSame c d
+row_same : (c d : Command) → same_verb c d ≡ true → parameter_of c ≡ parameter_of d → IsSame c d
 row_same commands.Quit commands.Quit verbs values = refl
 row_same commands.Quit d verbs values = cc
 row_same c commands.Quit verbs values = cc
 row_same c d verbs values = cc
 
 -- commands of one verb and one value are the same
-pub row_one : (c d : Command) → folded (verb_of c) ≡ folded (verb_of d) → value_of c ≡ value_of d → IsSame c d
+pub row_one : (c d : Command) → folded (verb_of c) ≡ folded (verb_of d) → parameter_of c ≡ parameter_of d → IsSame c d
 row_one c d same values = here (same_verb c d) refl where
   here : (t : Bool) → same_verb c d ≡ t → IsSame c d
   here true is = row_same c d is values

@@ -4,12 +4,13 @@ use Rattle.std.specs.List.{before_first, after_first}
 use Rattle.gft_base.specs.Words.{Lacks, space}
 use Rattle.gft_text.specs.Words.{folded}
 use Rattle.gft_command.specs.Parameters.{IsParameter, TakesMemory}
-use Rattle.gft_command.specs.Table.{row_of, value_of, verb_of}
-use Rattle.gft_command.specs.Telnet.{past_signals, telnet_escape, text_of}
+use Rattle.gft_command.specs.Table.{row_of, parameter_of, verb_of}
+use Rattle.gft_command.specs.Telnet.{past_signals, telnet_escape, telnet_text}
 use Rattle.gft_command.specs.declared.command.Command.{Command}
 use Rattle.gft_command.specs.declared.command.Command.TheVariants as commands
 use Rattle.gft_command.specs.declared.error.CommandError.{CommandError}
-use Rattle.gft_command.specs.declared.error.CommandError.TheVariants.{UnknownVerb, MissingParameter, BadParameter, OutOfMemory}
+use Rattle.gft_command.specs.declared.error.CommandError.TheVariants.{UnknownVerb, MissingParameter}
+use Rattle.gft_command.specs.declared.error.CommandError.TheVariants.{BadParameter, OutOfMemory}
 
 -- the bytes before the first space, and those behind it
 abbrev pub verb_in : List ℕ → List ℕ
@@ -29,16 +30,16 @@ IsVerbOf word command = folded (verb_of command) ≡ folded word
 -- a command of the same verb that carries what the parameter says
 abbrev pub IsRead : Command → List ℕ → Command → Type 0
 IsRead blank parameter command =
-    (verb_of command ≡ verb_of blank) × IsParameter parameter (value_of command)
+    (verb_of command ≡ verb_of blank) × IsParameter parameter (parameter_of command)
 
 -- the text says the command: its verb, in any case of its letters, and what it carries
 pub record SaysCommand (text : List ℕ) (command : Command) : Type 0 where
   pub verb : HasVerb text (verb_of command)
-  pub value : IsParameter (parameter_in text) (value_of command)
+  pub value : IsParameter (parameter_in text) (parameter_of command)
 
 -- the line is the command, once Telnet's bytes are read
 abbrev pub IsCommand : List ℕ → Command → Type 0
-IsCommand line command = SaysCommand (text_of line) command
+IsCommand line command = SaysCommand (telnet_text line) command
 
 -- the text's verb is that of a command
 abbrev pub HasKnownVerb : List ℕ → Type 0
@@ -53,9 +54,9 @@ pub record SaysNone (text : List ℕ) : Type 0 where
 pub record CouldTakeMemory (text : List ℕ) : Type 0 where
   pub command : Command
   pub verb : HasVerb text (verb_of command)
-  pub could : TakesMemory (parameter_in text) (value_of command)
+  pub could : TakesMemory (parameter_in text) (parameter_of command)
 
--- which refusal a text gets: the verb is unknown; else its parameter is missing, and it needs one; else it isn't in the grammar
+-- which refusal a text gets: its verb is unknown; else it says no command, as a parameter is missing or bad
 abbrev pub RefusesText : List ℕ → CommandError → Type 0
 RefusesText text UnknownVerb = ¬ HasKnownVerb text
 RefusesText text MissingParameter = SaysNone text × (parameter_in text ≡ [])
@@ -65,8 +66,8 @@ RefusesText text OutOfMemory = CouldTakeMemory text
 -- the same of a line; a line in which a byte 255 is left behind the signals is copied
 abbrev pub RefusesLine : List ℕ → CommandError → Type 0
 RefusesLine line OutOfMemory =
-    RefusesText (text_of line) OutOfMemory ⊎ ¬ Lacks telnet_escape (past_signals line)
-RefusesLine line e = RefusesText (text_of line) e
+    RefusesText (telnet_text line) OutOfMemory ⊎ ¬ Lacks telnet_escape (past_signals line)
+RefusesLine line e = RefusesText (telnet_text line) e
 
 -- the same command; lists of ranges name the same offsets
 abbrev pub IsSame : Command → Command → Type 0

@@ -1,5 +1,6 @@
--- The forms of a verb's parameter: which texts have which value, how a value is written, and which fit a line.
-use Rattle.std.specs.Prelude.{◌≡◌, ℕ, ◌+◌, ◌<◌, ◌≤◌, ◌==◌, ◌++◌, List, [], ◌∷◌, length, codes, decimal, IsTrue}
+-- The forms of a verb's parameter: which texts have a value, how it is written, and which fit a line.
+use Rattle.std.specs.Prelude.{◌≡◌, ◌+◌, ◌<◌, ◌≤◌, ◌==◌, ◌++◌, ◌∷◌, ℕ, List, [], length, codes, decimal}
+use Rattle.std.specs.Prelude.{IsTrue}
 use Rattle.std.specs.Char.{to_ascii_uppercase, is_ascii_alphabetic}
 use Rattle.std.specs.List.{before_first, after_first}
 use Rattle.gft_base.specs.Words.{AreSpaces, IsNumber, Lacks, line_feed, parts_at, space}
@@ -133,8 +134,8 @@ abbrev pub IsCapital : ℕ → Type 0
 IsCapital letter = (65 ≤ letter) × (letter ≤ 90)
 
 -- the line is no two lines and, with its CR, isn't too long
-abbrev pub IsWritable : List ℕ → Type 0
-IsWritable line = Lacks line_feed line × (length line + 1 < LINE_LIMIT)
+abbrev pub IsSendable : List ℕ → Type 0
+IsSendable line = Lacks line_feed line × (length line + 1 < LINE_LIMIT)
 
 -- the bytes stand in one line behind this verb and a space, and with its CR it isn't too long
 abbrev pub FitsBytes : List ℕ → List ℕ → Type 0
@@ -142,7 +143,8 @@ FitsBytes verb bytes = Lacks line_feed bytes × (length verb + length (doubled b
 
 -- the same where so many bytes without an LF stand before them
 abbrev pub FitsBehind : List ℕ → ℕ → List ℕ → Type 0
-FitsBehind verb front bytes = Lacks line_feed bytes × (length verb + front + length (doubled bytes) + 2 < LINE_LIMIT)
+FitsBehind verb front bytes =
+    Lacks line_feed bytes × (length verb + front + length (doubled bytes) + 2 < LINE_LIMIT)
 
 -- a text without an LF that is far from too long
 abbrev pub IsShort : List ℕ → Type 0

@@ -1,9 +1,10 @@
--- The table of verbs: a row for each command, with its verb and what it carries, by the form of its parameter.
+-- The table of verbs: a row for each command, its verb and what it carries, by the form of its parameter.
 use Rattle.std.specs.Prelude.{◌≡◌, ℕ, ◌<◌, ◌&&◌, Bool, IfSome, List, codes, length, nat_le, slice_get}
 use Rattle.std.specs.Borrow.{Bor}
 use Rattle.std.specs.List.{All, list_all}
 use Rattle.gft_text.specs.Words.{folded}
-use Rattle.gft_command.specs.Parameters.{Parameter, Nothing, Text, Letter, Number, LeadingNumber, Options, Address, Targets, Ranges, Part, Place}
+use Rattle.gft_command.specs.Parameters.{Parameter, Nothing, Text, Letter, Number, LeadingNumber}
+use Rattle.gft_command.specs.Parameters.{Options, Address, Targets, Ranges, Part, Place}
 use Rattle.gft_command.specs.declared.command.Command.{Command}
 use Rattle.gft_command.specs.declared.command.Command.TheVariants as commands
 
@@ -47,8 +48,8 @@ row_of commands.Abor = row (codes "ABOR") Nothing
 abbrev pub verb_of : Command → List ℕ
 verb_of command = (row_of command).verb
 
-abbrev pub value_of : Command → Parameter
-value_of command = (row_of command).value
+abbrev pub parameter_of : Command → Parameter
+parameter_of command = (row_of command).value
 
 -- a word that can stand in the table: capitals, at most four
 abbrev pub is_verb : List ℕ → Bool

@@ -32,5 +32,5 @@ doubled [] = []
 doubled (b ∷ bs) = if b == telnet_escape then b ∷ b ∷ doubled bs else b ∷ doubled bs
 
 -- the text that a line stands for
-abbrev pub text_of : List ℕ → List ℕ
-text_of line = undoubled (past_signals line)
+abbrev pub telnet_text : List ℕ → List ℕ
+telnet_text line = undoubled (past_signals line)

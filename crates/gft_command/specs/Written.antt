@@ -3,7 +3,7 @@ use Rattle.std.specs.Prelude.{◌≡◌, ℕ, ◌++◌, List, [], ◌∷◌}
 use Rattle.gft_base.specs.Words.{carriage_return, line_feed}
 use Rattle.gft_text.specs.Words.{Line, told}
 use Rattle.gft_command.specs.Commands.{HasVerb, IsCommand, parameter_in}
-use Rattle.gft_command.specs.Parameters.{FitsParameter, IsParameter, IsWritable, behind_verb}
+use Rattle.gft_command.specs.Parameters.{FitsParameter, IsParameter, IsSendable, behind_verb}
 use Rattle.gft_command.specs.Table.{Row, row_of}
 use Rattle.gft_command.specs.Telnet.{doubled, past_signals}
 use Rattle.gft_command.specs.declared.command.Command.{Command}
@@ -29,7 +29,7 @@ pub record IsTextOf (text : List ℕ) (r : Row) : Type 0 where
   pub one : text ≡ row_text r
   pub verb : HasVerb text r.verb
   pub value : IsParameter (parameter_in text) r.value
-  pub writable : IsWritable (doubled text)
+  pub writable : IsSendable (doubled text)
   pub plain : past_signals (doubled text) ≡ doubled text
 
 -- a stream that begins with these bytes tells one line first, and that line is the command

@@ -1,9 +1,9 @@
-ghost use Rattle.std.specs.Prelude.{◌≡◌, ◌<◌, ◌↔◌, length, slice_get, IfSome, IsTrue, IfOk, IfErr, MatchOption, MatchResult, Ok};
-ghost use Rattle.gft_command.specs.Commands.{
-    IsCommand, IsRead, IsVerbOf, RefusesLine, RefusesText, SaysCommand
-};
+ghost use Rattle.std.specs.Prelude.{◌≡◌, ◌<◌, ◌↔◌, length, slice_get, IsTrue, IfSome, IfOk, IfErr};
+ghost use Rattle.std.specs.Prelude.{MatchOption, MatchResult, Ok};
+ghost use Rattle.gft_command.specs.Commands.{IsCommand, IsRead, IsVerbOf, RefusesLine, RefusesText};
+ghost use Rattle.gft_command.specs.Commands.{SaysCommand};
 ghost use Rattle.gft_command.specs.Parameters.{RefusesForm};
-ghost use Rattle.gft_command.specs.Table.{AreOthers, IsPlaceOf, row_of, value_of, verb_of};
+ghost use Rattle.gft_command.specs.Table.{AreOthers, IsPlaceOf, row_of, parameter_of, verb_of};
 ghost use Rattle.gft_command.specs.Written.{FitsCommand, IsSentAs, IsTextOf, command_text};
 
 use crate::error::CommandError;
@@ -246,7 +246,7 @@ impl Command {
     /// The command of the same verb that carries what this parameter says.
     fn read(&self, alloc: Global, parameter: &[u8]) -> Result<Command, OptsError>
         ensures { MatchResult result (IsRead self.now parameter.now)
-            (RefusesForm parameter.now (value_of self.now)) }
+            (RefusesForm parameter.now (parameter_of self.now)) }
     {
         with_verbs!(parsed(alloc, self, parameter))
     }

@@ -1,5 +1,4 @@
 use gft_base::OutOfMemory;
-use std::alloc::AllocError;
 use thiserror::Error;
 
 /// Why a line is no command. The first three come in this order.
@@ -17,17 +16,6 @@ pub enum CommandError {
     /// Memory was refused.
     #[error("out of memory")]
     OutOfMemory,
-}
-
-impl From<AllocError> for CommandError {
-    ghost use Rattle.std.specs.Prelude.{◌≡◌};
-    ghost use Rattle.gft_command.specs.declared.error.CommandError.TheVariants as errors;
-
-    ghost from_gives = { λ _ e. e ≡ errors.OutOfMemory };
-
-    fn from(_refused: AllocError) -> CommandError {
-        CommandError::OutOfMemory
-    }
 }
 
 impl From<OutOfMemory> for CommandError {

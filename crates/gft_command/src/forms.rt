@@ -3,9 +3,8 @@
 
 ghost use Rattle.std.specs.Prelude.{◌≡◌, ◌∷◌, ◌++◌, ◌↔◌, IsTrue, IfOk, MatchResult, OnOk};
 ghost use Rattle.gft_base.specs.Words.{space};
-ghost use Rattle.gft_command.specs.Parameters.{
-    FitsForm, FitsParameter, IsParameter, Parameter, RefusesForm, behind_verb, parameter_text
-};
+ghost use Rattle.gft_command.specs.Parameters.{FitsForm, FitsParameter, IsParameter, Parameter};
+ghost use Rattle.gft_command.specs.Parameters.{RefusesForm, behind_verb, parameter_text};
 ghost use Rattle.gft_command.specs.Table.{is_verb, row};
 ghost use Rattle.gft_command.specs.Written.{IsTextOf};
 

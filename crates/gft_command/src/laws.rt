@@ -2,7 +2,7 @@
 
 ghost use Rattle.std.specs.Prelude.{◌≡◌, ◌≢◌, ℕ, List};
 ghost use Rattle.gft_command.specs.Commands.{IsCommand, IsSame, RefusesLine};
-ghost use Rattle.gft_command.specs.Parameters.{IsWritable};
+ghost use Rattle.gft_command.specs.Parameters.{IsSendable};
 ghost use Rattle.gft_command.specs.Telnet.{doubled};
 ghost use Rattle.gft_command.specs.Written.{FitsCommand, text_for};
 ghost use Rattle.gft_command.specs.declared.command.Command.{Command};
@@ -20,5 +20,5 @@ pub fn commands_have_one_value()
     ensures refused { (line : List ℕ) (a b : CommandError) → RefusesLine line a → RefusesLine line b →
         a ≢ errors.OutOfMemory → b ≢ errors.OutOfMemory → a ≡ b }
     ensures fits { (line : List ℕ) (command : Command) →
-        IsCommand line command → IsWritable (doubled (text_for command)) → FitsCommand command }
+        IsCommand line command → IsSendable (doubled (text_for command)) → FitsCommand command }
 {}

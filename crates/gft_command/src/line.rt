@@ -1,8 +1,7 @@
 //! The line of a command, as it is sent.
 
-ghost use Rattle.std.specs.Prelude.{
-    ◌≡◌, ◌≤◌, ◌^◌, ◌++◌, ◌<◌, ◌∷◌, [], ◌↔◌, decimal, length, IsTrue, IfOk
-};
+ghost use Rattle.std.specs.Prelude.{◌≡◌, ◌≤◌, ◌^◌, ◌++◌, ◌<◌, ◌∷◌, [], ◌↔◌, decimal, length, IsTrue};
+ghost use Rattle.std.specs.Prelude.{IfOk};
 ghost use Rattle.gft_base.specs.Words.{Lacks, carriage_return, line_feed};
 ghost use Rattle.gft_command.specs.Parameters.{FitsBehind};
 ghost use Rattle.gft_command.specs.Table.{is_verb};

@@ -1,12 +1,10 @@
 //! The bytes of Telnet in a line of the control conversation (RFC 959, section 3.1; RFC 854).
 
-ghost use Rattle.std.specs.Prelude.{
-    ◌≡◌, ◌≤◌, ◌∷◌, ◌++◌, ◌==◌, ◌||◌, ◌↔◌, ℕ, List, length, IsTrue, IfOk, OnOk, count_by
-};
+ghost use Rattle.std.specs.Prelude.{◌≡◌, ◌≤◌, ◌∷◌, ◌++◌, ◌==◌, ◌||◌, ◌↔◌, ℕ, List, length, IsTrue, IfOk};
+ghost use Rattle.std.specs.Prelude.{OnOk, count_by};
 ghost use Rattle.gft_base.specs.Words.{Lacks};
-ghost use Rattle.gft_command.specs.Telnet.{
-    data_mark, doubled, interrupt_process, past_signals, telnet_escape, undoubled
-};
+ghost use Rattle.gft_command.specs.Telnet.{data_mark, doubled, interrupt_process, past_signals};
+ghost use Rattle.gft_command.specs.Telnet.{telnet_escape, undoubled};
 
 use gft_base::{OutOfMemory, find_byte};
 use std::alloc::Global;

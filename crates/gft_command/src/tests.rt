@@ -1,5 +1,5 @@
 use super::*;
-use gft_text::{Lines, Words};
+use gft_text::Words;
 use std::alloc::Global;
 use std::process::Abort;
 use std::test::Fail;
@@ -12,8 +12,45 @@ fn written(rt: &impl Abort, alloc: Global, line: &[u8]) -> Result<Vec<u8>, Comma
 }
 
 #[test]
-fn a_line_is_read_and_written_in_its_one_form(rt: HostRuntime) -> Result<(), Fail> {
-    let rows: [(&'static [u8], &'static [u8]); 21] = [
+fn a_line_in_its_one_form_is_written_as_it_was(rt: HostRuntime) -> Result<(), Fail> {
+    let rows: [&'static [u8]; 26] = [
+        b"USER anonymous",
+        b"PASS x",
+        b"QUIT",
+        b"NOOP",
+        b"FEAT",
+        b"PWD",
+        b"CWD /",
+        b"TYPE I",
+        b"MODE E",
+        b"STRU F",
+        b"DCAU N",
+        b"SBUF 1048576",
+        b"ALLO 0",
+        b"OPTS RETR StripeLayout=Blocked;BlockSize=1048576;Parallelism=4,4,4;",
+        b"PASV",
+        b"SPAS",
+        b"PORT 127,0,0,1,200,10",
+        b"SPOR 127,0,0,1,200,10 127,0,0,1,200,11",
+        b"REST 0-5,7-9",
+        b"STOR a.dat",
+        b"RETR a.dat",
+        b"ERET P 10 5 a.dat",
+        b"ESTO A 5 a.dat",
+        b"SIZE a.dat",
+        b"DELE a.dat",
+        b"ABOR",
+    ];
+    for (i, line) in rows.into_iter().enumerate() {
+        let written = written(&rt, rt.alloc(), line)?;
+        assert!(rt; written.strip_suffix(b"\r\n") == Some(line), "row {i}");
+    }
+    Ok(())
+}
+
+#[test]
+fn another_line_is_written_in_its_one_form(rt: HostRuntime) -> Result<(), Fail> {
+    let rows: [(&'static [u8], &'static [u8]); 16] = [
         (b"retr /a.dat", b"RETR /a.dat\r\n"),
         (b"TYPE I N", b"TYPE I\r\n"),
         (b"Type i", b"TYPE I\r\n"),
@@ -21,12 +58,10 @@ fn a_line_is_read_and_written_in_its_one_form(rt: HostRuntime) -> Result<(), Fai
         (b"NOOP  ", b"NOOP\r\n"),
         (b"\xff\xf4\xff\xf2ABOR", b"ABOR\r\n"),
         (b"\xff\xf2\xff\xf2\xff\xf4abor", b"ABOR\r\n"),
-        (b"REST 0-5,7-9", b"REST 0-5,7-9\r\n"),
         (b"REST 7-9,5,3-8", b"REST 0-9\r\n"),
         (b"REST 0", b"REST 0-0\r\n"),
         (b"ALLO 10 R 5", b"ALLO 10\r\n"),
         (b"SBUF 09", b"SBUF 9\r\n"),
-        (b"RETR  ", b"RETR  \r\n"),
         (
             b"OPTS retr parallelism=4,2,8",
             b"OPTS RETR Parallelism=4,4,4;\r\n",
@@ -35,9 +70,6 @@ fn a_line_is_read_and_written_in_its_one_form(rt: HostRuntime) -> Result<(), Fai
         (b"ERET p 010 5 a.dat", b"ERET P 10 5 a.dat\r\n"),
         (b"RETR a\xffb", b"RETR a\xff\xffb\r\n"),
         (b"RETR a\xff\xff\xffb", b"RETR a\xff\xff\xff\xffb\r\n"),
-        (b"TYPE A", b"TYPE A\r\n"),
-        (b"PASS globus@", b"PASS globus@\r\n"),
-        (b"ALLO 3000000", b"ALLO 3000000\r\n"),
     ];
     for (i, (line, text)) in rows.into_iter().enumerate() {
         let written = written(&rt, rt.alloc(), line)?;
@@ -83,45 +115,6 @@ fn a_line_is_refused_by_name(rt: HostRuntime) {
 }
 
 #[test]
-fn each_verb_is_written_and_read_again(rt: HostRuntime) -> Result<(), Fail> {
-    let rows: [&'static [u8]; 26] = [
-        b"USER anonymous\r\n",
-        b"PASS x\r\n",
-        b"QUIT\r\n",
-        b"NOOP\r\n",
-        b"FEAT\r\n",
-        b"PWD\r\n",
-        b"CWD /\r\n",
-        b"TYPE I\r\n",
-        b"MODE E\r\n",
-        b"STRU F\r\n",
-        b"DCAU N\r\n",
-        b"SBUF 1048576\r\n",
-        b"ALLO 0\r\n",
-        b"OPTS RETR StripeLayout=Blocked;BlockSize=1048576;Parallelism=4,4,4;\r\n",
-        b"PASV\r\n",
-        b"SPAS\r\n",
-        b"PORT 127,0,0,1,200,10\r\n",
-        b"SPOR 127,0,0,1,200,10 127,0,0,1,200,11\r\n",
-        b"REST 0-5,7-9\r\n",
-        b"STOR a.dat\r\n",
-        b"RETR a.dat\r\n",
-        b"ERET P 10 5 a.dat\r\n",
-        b"ESTO A 5 a.dat\r\n",
-        b"SIZE a.dat\r\n",
-        b"DELE a.dat\r\n",
-        b"ABOR\r\n",
-    ];
-    for (i, row) in rows.into_iter().enumerate() {
-        let mut lines = Lines::new(rt.alloc());
-        assert!(rt; lines.feed(row)?.whole, "row {i}");
-        let written = written(&rt, rt.alloc(), lines.line())?;
-        assert!(rt; written.as_slice() == row, "row {i}");
-    }
-    Ok(())
-}
-
-#[test]
 fn a_command_carries_what_the_line_says(rt: HostRuntime) -> Result<(), Fail> {
     let alloc = rt.alloc();
     assert!(rt; matches!(parse(alloc, b"type i n")?, Command::SetType(b'I')));
@@ -141,21 +134,6 @@ fn a_command_carries_what_the_line_says(rt: HostRuntime) -> Result<(), Fail> {
         return Ok(());
     };
     assert_eq!(rt; esto.offset, 5);
-    Ok(())
-}
-
-#[test]
-fn a_list_has_at_most_512_items(rt: HostRuntime) -> Result<(), Fail> {
-    let mut line = Vec::from_slice(rt.alloc(), b"REST 1")?;
-    for _ in 1..512 {
-        line.extend_from_slice(b",1")?;
-    }
-    assert!(rt; matches!(parse(rt.alloc(), &line)?, Command::Rest(_)));
-    line.extend_from_slice(b",1")?;
-    match parse(rt.alloc(), &line) {
-        Ok(_) => assert!(rt; false),
-        Err(error) => assert_eq!(rt; error, CommandError::BadParameter),
-    }
     Ok(())
 }
 

@@ -12,7 +12,7 @@ use Rattle.gft_base.proofs.Lemmas.{parts_found, parts_alone, parts_some, parts_j
 use Rattle.gft_layout.specs.declared.Layout.{Layout}
 use Rattle.gft_layout.specs.declared.Layout.TheVariants as layouts
 use Rattle.gft_opts.specs.Setting.{IsSetting, setting_text}
-use Rattle.gft_opts.specs.Retr.{FitsLayout, FitsParallel, FitsRetr, IsRetr, MakesLayout, Says, block_in, blocks_of, ended, items_of, layout_in, layout_settings, names_of, parallel_settings, retr_text, settings_text, start_in}
+use Rattle.gft_opts.specs.Retr.{FitsLayout, FitsParallel, FitsRetr, IsRetr, MakesLayout, SaysOptions, block_in, blocks_of, ended, option_items, layout_in, layout_settings, names_of, parallel_settings, retr_text, settings_text, start_in}
 use Rattle.gft_opts.specs.Settings.{Adds, IsTwice}
 use Rattle.gft_opts.specs.declared.retr.RetrOptions.{RetrOptions}
 use Rattle.gft_opts.specs.declared.settings.Settings.{Settings}
@@ -34,9 +34,9 @@ ended-alone [] some = absurd (omega (arith, some))
 ended-alone (b ∷ part) some = refl
 
 -- an item ends at the first `;`, or at the end
-pub items-more : (text : List ℕ) → 0 < length text → items_of text ≡ before_first (λ b. eqb b 59) text ∷ items_of (after_first (λ b. eqb b 59) text)
+pub items-more : (text : List ℕ) → 0 < length text → option_items text ≡ before_first (λ b. eqb b 59) text ∷ option_items (after_first (λ b. eqb b 59) text)
 items-more text some = go (position (λ b. eqb b 59) text) refl where
-  go : (found : Option ℕ) → position (λ b. eqb b 59) text ≡ found → items_of text ≡ before_first (λ b. eqb b 59) text ∷ items_of (after_first (λ b. eqb b 59) text)
+  go : (found : Option ℕ) → position (λ b. eqb b 59) text ≡ found → option_items text ≡ before_first (λ b. eqb b 59) text ∷ option_items (after_first (λ b. eqb b 59) text)
   go None none =
       let place = place_none (λ b. eqb b 59) text none in
       rw (parts_alone 59 text none, place, take-length, drop_of_length-le text {i = length text + 1} (omega arith)) (ended-alone text some)
@@ -52,7 +52,7 @@ items-shorter text some = simp length-drop (omega (arith, some))
 pub record Reading (text rest : List ℕ) (said : Settings) : Type 0 where
   pub done : List (List ℕ)
   pub settings : List Setting
-  pub items : items_of text ≡ done ++ items_of rest
+  pub items : option_items text ≡ done ++ option_items rest
   pub read : AllZip IsSetting done settings
   pub layouts : flat_map layout_in settings ≡ option_to_list said.layout
   pub blocks : flat_map block_in settings ≡ option_to_list said.block
@@ -83,7 +83,7 @@ read_more text rest old new setting kept some is adds = record {
   starts = in_one_more start_in kept.settings setting ∙ ap (λ (x : List ℕ). x ++ start_in setting) kept.starts ∙ sym adds.start;
 }
 
-pub all_read : (text rest : List ℕ) (said : Settings) → Reading text rest said → length rest ≡ 0 → Says text (option_to_list said.layout) (option_to_list said.block) (option_to_list said.parallel)
+pub all_read : (text rest : List ℕ) (said : Settings) → Reading text rest said → length rest ≡ 0 → SaysOptions text (option_to_list said.layout) (option_to_list said.block) (option_to_list said.parallel)
 all_read text (b ∷ rest) said kept none = absurd (omega (arith, none))
 all_read text [] said kept none = record {
   settings = kept.settings;
@@ -98,7 +98,7 @@ all_read text [] said kept none = record {
 pub bad_item : (text rest : List ℕ) (said : Settings) → Reading text rest said → 0 < length rest → ((setting : Setting) → IsSetting (before_first (λ b. eqb b 59) rest) setting → ⊥) → (options : RetrOptions) → IsRetr text options → ⊥
 bad_item text rest said kept some bad options is =
     let items = kept.items ∙ ap (λ (x : List (List ℕ)). kept.done ++ x) (items-more rest some) in
-    let found = AllZip-middle IsSetting kept.done (before_first (λ b. eqb b 59) rest) (items_of (after_first (λ b. eqb b 59) rest)) is.settings (rw items at is.read) in
+    let found = AllZip-middle IsSetting kept.done (before_first (λ b. eqb b 59) rest) (option_items (after_first (λ b. eqb b 59) rest)) is.settings (rw items at is.read) in
     bad found.0 found.1
 
 few_layouts : (layout : Option Layout) → length (names_of layout) ≤ 1
@@ -124,9 +124,9 @@ too_many f settings more setting before whole has all few twice =
 pub key_twice : (text rest : List ℕ) (said : Settings) (setting : Setting) → Reading text rest said → 0 < length rest → IsSetting (before_first (λ b. eqb b 59) rest) setting → IsTwice said setting → (options : RetrOptions) → IsRetr text options → ⊥
 key_twice text rest said setting kept some is_setting twice options is =
     let items = kept.items ∙ ap (λ (x : List (List ℕ)). kept.done ++ x) (items-more rest some) in
-    let split = AllZip-split IsSetting kept.done (before_first (λ b. eqb b 59) rest ∷ items_of (after_first (λ b. eqb b 59) rest)) is.settings (rw items at is.read) in
+    let split = AllZip-split IsSetting kept.done (before_first (λ b. eqb b 59) rest ∷ option_items (after_first (λ b. eqb b 59) rest)) is.settings (rw items at is.read) in
     behind split.0 split.1 split.2 (AllZip-one IsSetting IsSetting-one kept.done split.0 kept.settings split.3 kept.read) split.4 where
-      behind : (front back : List Setting) → is.settings ≡ front ++ back → front ≡ kept.settings → AllZip IsSetting (before_first (λ b. eqb b 59) rest ∷ items_of (after_first (λ b. eqb b 59) rest)) back → ⊥
+      behind : (front back : List Setting) → is.settings ≡ front ++ back → front ≡ kept.settings → AllZip IsSetting (before_first (λ b. eqb b 59) rest ∷ option_items (after_first (λ b. eqb b 59) rest)) back → ⊥
       behind front [] whole same all = all
       behind front (next ∷ back) whole same all =
           let next_is = IsSetting-one _ next setting all.0 is_setting in
@@ -142,16 +142,16 @@ key_twice text rest said setting kept some is_setting twice options is =
 -- ---- one value
 
 -- a text says each key's values once
-pub says_one : (text : List ℕ) (ls ms : List LayoutName) (bs cs ns os : List ℕ) → Says text ls bs ns → Says text ms cs os → (ls ≡ ms) × (bs ≡ cs) × (ns ≡ os)
+pub says_one : (text : List ℕ) (ls ms : List LayoutName) (bs cs ns os : List ℕ) → SaysOptions text ls bs ns → SaysOptions text ms cs os → (ls ≡ ms) × (bs ≡ cs) × (ns ≡ os)
 says_one text ls ms bs cs ns os a b =
-    let same = AllZip-one IsSetting IsSetting-one (items_of text) a.settings b.settings a.read b.read in (
+    let same = AllZip-one IsSetting IsSetting-one (option_items text) a.settings b.settings a.read b.read in (
       sym a.layouts_are ∙ ap (λ (x : List Setting). flat_map layout_in x) same ∙ b.layouts_are,
       sym a.blocks_are ∙ ap (λ (x : List Setting). flat_map block_in x) same ∙ b.blocks_are,
       sym a.starts_are ∙ ap (λ (x : List Setting). flat_map start_in x) same ∙ b.starts_are,
     )
 
 -- what makes no layout is said by no options
-pub no_layout : (text : List ℕ) (names : List LayoutName) (blocks starts : List ℕ) → Says text names blocks starts → ((layout : Option Layout) → MakesLayout names blocks layout → ⊥) → (options : RetrOptions) → IsRetr text options → ⊥
+pub no_layout : (text : List ℕ) (names : List LayoutName) (blocks starts : List ℕ) → SaysOptions text names blocks starts → ((layout : Option Layout) → MakesLayout names blocks layout → ⊥) → (options : RetrOptions) → IsRetr text options → ⊥
 no_layout text names blocks starts said none options is =
     let same = says_one text _ _ _ _ _ _ said is in
     none options.layout (record { names_are = same.0; blocks_are = same.1 })
@@ -184,12 +184,12 @@ one text a b is_a is_b =
 
 -- ---- what is written is read again
 
-settings_read : (settings : List Setting) → AllByRecursion FitsSetting settings → AllZip IsSetting (items_of (settings_text settings)) settings
+settings_read : (settings : List Setting) → AllByRecursion FitsSetting settings → AllZip IsSetting (option_items (settings_text settings)) settings
 settings_read [] fit = tt
 settings_read (setting ∷ settings) fit =
     let text : settings_text (setting ∷ settings) ≡ setting_text setting ++ 59 ∷ settings_text settings = append_assoc (setting_text setting) (59 ∷ []) (settings_text settings) in
     let parts = parts_join 59 (setting_text setting) (settings_text settings) (setting_lacks setting fit.0) in
-    let items = ap (λ (x : List ℕ). items_of x) text ∙ ap (λ (x : List (List ℕ)). ended x) parts ∙ ended-more (setting_text setting) (parts_at 59 (settings_text settings)) (parts_some 59 (settings_text settings)) in
+    let items = ap (λ (x : List ℕ). option_items x) text ∙ ap (λ (x : List (List ℕ)). ended x) parts ∙ ended-more (setting_text setting) (parts_at 59 (settings_text settings)) (parts_some 59 (settings_text settings)) in
     rw items (setting_written setting fit.0, settings_read settings fit.1)
 
 layout_fit : (layout : Option Layout) (more : List Setting) → FitsLayout layout → AllByRecursion FitsSetting more → AllByRecursion FitsSetting (layout_settings layout ++ more)
@@ -268,7 +268,7 @@ parallel_is_fit (Some start) settings fit same = start_fits settings start fit s
 
 pub fits : (text : List ℕ) (options : RetrOptions) → IsRetr text options → FitsRetr options
 fits text options is =
-    let all = all_fit (items_of text) is.settings is.read in
+    let all = all_fit (option_items text) is.settings is.read in
     record { layout = layout_is_fit options.layout is.settings all is.blocks_are; parallel = parallel_is_fit options.parallel is.settings all is.starts_are }
 
 -- ---- what the writer writes

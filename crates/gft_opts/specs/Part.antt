@@ -1,7 +1,7 @@
 -- Parts of a file in text (GFD.20): ERET's `P offset size name`, and ESTO's `A offset name`.
 use Rattle.std.specs.Prelude.{◌≡◌, ℕ, ◌<◌, ◌≤◌, ◌^◌, List, [], ◌∷◌, codes, decimal, length}
 use Rattle.std.specs.List.{join_with_byte}
-use Rattle.gft_base.specs.Words.{IsNumber, parts_at, Lacks}
+use Rattle.gft_base.specs.Words.{IsNumber, Lacks, parts_at, space}
 use Rattle.gft_base.specs.declared.TheConstants.{LIMIT}
 use Rattle.gft_opts.specs.Word.{IsWord}
 use Rattle.gft_opts.specs.declared.part.Eret.{Eret}
@@ -15,14 +15,14 @@ pub record IsOffset (text : List ℕ) (offset : ℕ) : Type 0 where
 -- one byte or more, and no space
 pub record IsPath (path : List ℕ) : Type 0 where
   pub some : 0 < length path
-  pub single : Lacks 32 path
+  pub single : Lacks space path
 
 -- four words with one space between them
 pub record IsEret (text : List ℕ) (eret : Eret) : Type 0 where
   pub mode : List ℕ
   pub offset : List ℕ
   pub size : List ℕ
-  pub words : parts_at 32 text ≡ mode ∷ offset ∷ size ∷ eret.path ∷ []
+  pub words : parts_at space text ≡ mode ∷ offset ∷ size ∷ eret.path ∷ []
   pub mode_is : IsWord (codes "P") mode
   pub offset_is : IsOffset offset eret.offset
   pub size_is : IsNumber size eret.size
@@ -32,17 +32,17 @@ pub record IsEret (text : List ℕ) (eret : Eret) : Type 0 where
 pub record IsEsto (text : List ℕ) (esto : Esto) : Type 0 where
   pub mode : List ℕ
   pub offset : List ℕ
-  pub words : parts_at 32 text ≡ mode ∷ offset ∷ esto.path ∷ []
+  pub words : parts_at space text ≡ mode ∷ offset ∷ esto.path ∷ []
   pub mode_is : IsWord (codes "A") mode
   pub offset_is : IsOffset offset esto.offset
   pub path_is : IsPath esto.path
 
 -- the one text that is written
 abbrev pub eret_text : Eret → List ℕ
-eret_text eret = join_with_byte 32 (codes "P" ∷ decimal eret.offset ∷ decimal eret.size ∷ eret.path ∷ [])
+eret_text eret = join_with_byte space (codes "P" ∷ decimal eret.offset ∷ decimal eret.size ∷ eret.path ∷ [])
 
 abbrev pub esto_text : Esto → List ℕ
-esto_text esto = join_with_byte 32 (codes "A" ∷ decimal esto.offset ∷ esto.path ∷ [])
+esto_text esto = join_with_byte space (codes "A" ∷ decimal esto.offset ∷ esto.path ∷ [])
 
 -- the part has a text
 pub record FitsEret (eret : Eret) : Type 0 where

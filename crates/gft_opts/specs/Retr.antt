@@ -2,7 +2,7 @@
 use Rattle.std.specs.Prelude.{◌≡◌, ℕ, ◌≤◌, List, [], ◌∷◌, ◌++◌, Option, Some, None}
 use Rattle.std.specs.List.{AllZip, flat_map}
 use Rattle.std.specs.Option.{option_to_list}
-use Rattle.gft_base.specs.Words.{parts_at}
+use Rattle.gft_base.specs.Words.{parts_at, semicolon}
 use Rattle.gft_base.specs.declared.TheConstants.{LIMIT}
 use Rattle.gft_layout.specs.declared.Layout.{Layout}
 use Rattle.gft_layout.specs.declared.Layout.TheVariants as layouts
@@ -21,8 +21,8 @@ ended ([] ∷ []) = []
 ended (part ∷ parts) = part ∷ ended parts
 
 -- the items of a text, each ended by `;`, which may be missing at the end
-abbrev pub items_of : List ℕ → List (List ℕ)
-items_of text = ended (parts_at 59 text)
+abbrev pub option_items : List ℕ → List (List ℕ)
+option_items text = ended (parts_at semicolon text)
 
 -- what a setting says of each key
 abbrev pub layout_in : Setting → List LayoutName
@@ -41,9 +41,9 @@ start_in (BlockSize block) = []
 start_in (Parallelism start) = start ∷ []
 
 -- the items of the text say these values of each key, and no others
-pub record Says (text : List ℕ) (layouts : List LayoutName) (blocks starts : List ℕ) : Type 0 where
+pub record SaysOptions (text : List ℕ) (layouts : List LayoutName) (blocks starts : List ℕ) : Type 0 where
   pub settings : List Setting
-  pub read : AllZip IsSetting (items_of text) settings
+  pub read : AllZip IsSetting (option_items text) settings
   pub layouts_are : flat_map layout_in settings ≡ layouts
   pub blocks_are : flat_map block_in settings ≡ blocks
   pub starts_are : flat_map start_in settings ≡ starts
@@ -61,7 +61,8 @@ blocks_of (Some (layouts.Blocked block)) = block ∷ []
 
 -- the text says these options, each key at most once
 abbrev pub IsRetr : List ℕ → RetrOptions → Type 0
-IsRetr text options = Says text (names_of options.layout) (blocks_of options.layout) (option_to_list options.parallel)
+IsRetr text options =
+    SaysOptions text (names_of options.layout) (blocks_of options.layout) (option_to_list options.parallel)
 
 -- these names and block sizes are those of the layout
 pub record MakesLayout (names : List LayoutName) (blocks : List ℕ) (layout : Option Layout) : Type 0 where
@@ -80,11 +81,12 @@ parallel_settings (Some start) = Parallelism start ∷ []
 
 -- each setting ended by `;`
 abbrev pub settings_text : List Setting → List ℕ
-settings_text settings = flat_map (λ s. setting_text s ++ 59 ∷ []) settings
+settings_text settings = flat_map (λ s. setting_text s ++ semicolon ∷ []) settings
 
 -- the one text that is written
 abbrev pub retr_text : RetrOptions → List ℕ
-retr_text options = settings_text (layout_settings options.layout) ++ settings_text (parallel_settings options.parallel)
+retr_text options =
+    settings_text (layout_settings options.layout) ++ settings_text (parallel_settings options.parallel)
 
 abbrev pub FitsLayout : Option Layout → Type 0
 FitsLayout None = Unit {0}

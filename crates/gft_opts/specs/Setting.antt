@@ -1,7 +1,7 @@
 -- One option of RETR, `key=value` (GFD.20, OPTS RETR).
 use Rattle.std.specs.Prelude.{ℕ, ◌≤◌, ◌==◌, ◌++◌, List, [], ◌∷◌, codes, decimal}
 use Rattle.std.specs.List.{AllZip, before_first, after_first}
-use Rattle.gft_base.specs.Words.{IsNumber, parts_at}
+use Rattle.gft_base.specs.Words.{IsNumber, comma, equals_sign, parts_at}
 use Rattle.gft_base.specs.declared.TheConstants.{LIMIT}
 use Rattle.gft_opts.specs.Word.{IsWord}
 use Rattle.gft_opts.specs.declared.TheConstants.{MAX_PARALLEL}
@@ -14,10 +14,10 @@ use Rattle.gft_opts.specs.declared.setting.Setting.TheVariants.{StripeLayout, Bl
 
 -- the bytes before the first `=`, and those behind it
 abbrev pub key_in : List ℕ → List ℕ
-key_in item = before_first (λ b. b == 61) item
+key_in item = before_first (λ b. b == equals_sign) item
 
 abbrev pub value_in : List ℕ → List ℕ
-value_in item = after_first (λ b. b == 61) item
+value_in item = after_first (λ b. b == equals_sign) item
 
 abbrev pub key_text : Key → List ℕ
 key_text keys.StripeLayout = codes "StripeLayout"
@@ -44,7 +44,7 @@ pub record IsBlockSize (text : List ℕ) (block : ℕ) : Type 0 where
 pub record IsParallelism (text : List ℕ) (start : ℕ) : Type 0 where
   pub least : ℕ
   pub most : ℕ
-  pub numbers : AllZip IsNumber (parts_at 44 text) (start ∷ least ∷ most ∷ [])
+  pub numbers : AllZip IsNumber (parts_at comma text) (start ∷ least ∷ most ∷ [])
   pub some : 1 ≤ least
   pub above : least ≤ start
   pub below : start ≤ most
@@ -71,7 +71,7 @@ pub record IsSetting (item : List ℕ) (setting : Setting) : Type 0 where
 abbrev pub value_text : Setting → List ℕ
 value_text (StripeLayout name) = name_text name
 value_text (BlockSize block) = decimal block
-value_text (Parallelism start) = decimal start ++ 44 ∷ (decimal start ++ 44 ∷ decimal start)
+value_text (Parallelism start) = decimal start ++ comma ∷ (decimal start ++ comma ∷ decimal start)
 
 abbrev pub setting_text : Setting → List ℕ
-setting_text setting = key_text (key_of setting) ++ 61 ∷ value_text setting
+setting_text setting = key_text (key_of setting) ++ equals_sign ∷ value_text setting

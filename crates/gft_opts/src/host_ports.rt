@@ -1,8 +1,9 @@
-ghost use Rattle.std.specs.Prelude.{◌≡◌, ◌++◌, ◌∷◌, ◌↔◌, [], length, slice_get, IsTrue, IfOk, OnOk, OnErr};
+ghost use Rattle.std.specs.Prelude.{◌≡◌, ◌++◌, ◌∷◌, ◌↔◌, [], length, slice_get, IsTrue, IfOk, OnOk};
+ghost use Rattle.std.specs.Prelude.{OnErr};
 ghost use Rattle.gft_opts.specs.Targets.{FitsTargets};
 
-use crate::laws::host_port_fits;
 use crate::MAX_TARGETS;
+use crate::laws::host_port_fits;
 use gft_base::OutOfMemory;
 use gft_text::HostPort;
 use std::alloc::Global;
@@ -25,6 +26,20 @@ impl Model for HostPorts {
     ghost view = { λ h. h.addresses.items };
 
     ghost invariant = { λ h. AllByRecursion FitsHostPort h.addresses.items };
+}
+
+impl PartialEq for HostPorts {
+    ghost use Rattle.std.proofs.Common.{rules};
+    ghost use Rattle.std.specs.Cmp.Lexicographic.{lists_per, pointwise};
+    ghost use Rattle.std.specs.Cmp.Rules.{comparing};
+
+    ghost eq = { pointwise ⟦<HostPort as PartialEq>⟧.eq };
+
+    ghost laws = { lists_per (Prim.search (comparing, rules)) };
+
+    fn eq(&self, other: &HostPorts) -> bool {
+        self.addresses == other.addresses
+    }
 }
 
 impl HostPorts {
@@ -70,7 +85,8 @@ impl HostPorts {
         self.addresses.get(i).copied()
     }
 
-    pub(crate) fn as_slice(&self) -> &[HostPort]
+    /// All addresses, in order.
+    pub fn as_slice(&self) -> &[HostPort]
         ensures { result.now ≡ self.now }
     {
         &self.addresses

@@ -20,7 +20,10 @@ mod tests;
 
 pub use error::OptsError;
 pub use host_ports::HostPorts;
-pub use laws::{eret_has_one_value, esto_has_one_value, host_port_fits, retr_has_one_value, targets_have_one_value};
+pub use laws::{
+    eret_has_one_value, esto_has_one_value, host_port_fits, retr_has_one_value,
+    targets_have_one_value,
+};
 pub use part::{Eret, Esto, read_eret, read_esto, write_eret, write_esto};
 pub use retr::{RetrOptions, read_retr, write_retr};
 pub use targets::{read_targets, write_targets};
@@ -33,4 +36,5 @@ pub const MAX_TARGETS: usize = 16;
 
 // The definitions of all crates cite the names: their numbers are pinned here.
 const _: () = prove!(MAX_PARALLEL == 64);
+
 const _: () = prove!(MAX_TARGETS == 16);

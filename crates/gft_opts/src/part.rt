@@ -1,5 +1,6 @@
 ghost use Rattle.std.specs.Prelude.{◌≡◌, ◌↔◌, ℕ, IsTrue, IfOk, IfErr, MatchOption};
-ghost use Rattle.gft_opts.specs.Part.{FitsEret, FitsEsto, IsEret, IsEsto, IsOffset, IsPath, eret_text, esto_text};
+ghost use Rattle.gft_opts.specs.Part.{FitsEret, FitsEsto, IsEret, IsEsto, IsOffset, IsPath, eret_text};
+ghost use Rattle.gft_opts.specs.Part.{esto_text};
 ghost use Rattle.gft_opts.specs.Refusal.{RefusesOption};
 ghost use Rattle.gft_opts.specs.declared.part.Eret.{Eret};
 ghost use Rattle.gft_opts.specs.declared.part.Esto.{Esto};

@@ -1,11 +1,12 @@
 ghost use Rattle.std.specs.Prelude.{◌≡◌, ◌++◌, ◌↔◌, IsTrue, IsOkUnless, Some, IfOk, OnOk, OnErr};
 ghost use Rattle.std.specs.String.{string_bytes};
-ghost use Rattle.gft_opts.specs.Retr.{FitsLayout, FitsParallel, FitsRetr, IsRetr, layout_settings, parallel_settings, retr_text, settings_text};
+ghost use Rattle.gft_opts.specs.Retr.{FitsLayout, FitsParallel, FitsRetr, IsRetr, layout_settings};
+ghost use Rattle.gft_opts.specs.Retr.{parallel_settings, retr_text, settings_text};
 ghost use Rattle.gft_opts.specs.declared.error.OptsError.TheVariants as errors;
 ghost use Rattle.gft_opts.specs.declared.retr.RetrOptions.{RetrOptions};
 
-use crate::error::OptsError;
 use crate::MAX_PARALLEL;
+use crate::error::OptsError;
 use crate::settings::read_settings;
 use gft_base::{LIMIT, OutOfMemory};
 use gft_layout::Layout;

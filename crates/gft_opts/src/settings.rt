@@ -1,7 +1,7 @@
 ghost use Rattle.std.specs.Prelude.{◌≡◌, Option, Some, None, IsSome, MatchOption};
 ghost use Rattle.std.specs.Option.{option_to_list};
 ghost use Rattle.gft_layout.specs.declared.Layout.{Layout};
-ghost use Rattle.gft_opts.specs.Retr.{IsRetr, Says, MakesLayout};
+ghost use Rattle.gft_opts.specs.Retr.{IsRetr, SaysOptions, MakesLayout};
 ghost use Rattle.gft_opts.specs.Settings.{Adds, IsTwice};
 ghost use Rattle.gft_opts.specs.declared.retr.RetrOptions.{RetrOptions};
 
@@ -70,7 +70,7 @@ fn once<T: Copy>(before: Option<T>, value: T) -> Option<T>
 /// Reads the items of a text, each ended by `;`, which may be missing at the end.
 pub(crate) fn read_settings(text: &[u8]) -> Option<Settings>
     ensures { MatchOption result ((options : RetrOptions) → ¬ IsRetr text.now options)
-        (λ said. Says text.now (option_to_list said.layout)
+        (λ said. SaysOptions text.now (option_to_list said.layout)
         (option_to_list said.block) (option_to_list said.parallel)) }
 {
     let mut said = Settings {

@@ -128,6 +128,9 @@ fn targets_are_read_and_written(rt: HostRuntime) -> Result<(), Fail> {
     assert_eq!(rt; targets.nth(1), Some(AT_8));
     assert_eq!(rt; targets.nth(2), None);
     assert!(rt; targets.fits());
+    assert!(rt; targets.as_slice() == [AT_7, AT_8].as_slice());
+    assert!(rt; targets == read_targets(rt.alloc(), text)?);
+    assert!(rt; targets != HostPorts::new(rt.alloc()));
     assert_eq!(rt;
         write_targets(rt.alloc(), &targets)?.as_slice(),
         text.as_slice()
