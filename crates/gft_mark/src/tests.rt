@@ -141,5 +141,7 @@ fn other_replies_are_no_markers(rt: HostRuntime) -> Result<(), Fail> {
         let marker = read_marker(rt.alloc(), &reply);
         assert!(rt; matches!(marker, Err(MarkerError::NotAMarker)), "row {i}");
     }
+    let message = MarkerError::NotAMarker.to_string(rt.alloc())?;
+    assert_eq!(rt; message.as_str(), "not a marker");
     Ok(())
 }

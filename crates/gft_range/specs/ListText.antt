@@ -63,7 +63,7 @@ HasNoList text OutOfMemory = Unit {0}
 abbrev pub item_text : Range → List ℕ
 item_text r = decimal r.start ++ dash ∷ decimal r.end
 
--- the one text of a normal list: its ranges with commas between them, or `0-0` where there is none
+-- the one text of a normal list: its ranges with commas between them, or `0-0` if there is none
 abbrev pub list_text : List Range → List ℕ
 list_text [] = digit_zero ∷ dash ∷ digit_zero ∷ []
 list_text (r ∷ rs) = item_text r ++ flat_map (λ q. comma ∷ item_text q) rs

@@ -130,7 +130,7 @@ fn read_item(text: &[u8]) -> Option<Range>
     }
 }
 
-/// The text of these ranges, or `0-0` where there is none.
+/// The text of these ranges, or `0-0` if there is none.
 fn write_ranges(alloc: Global, ranges: &[Range]) -> Result<Vec<u8>, OutOfMemory>
     ensures text { IfOk result (λ text. text.items ≡ list_text ranges.now) }
     ensures fit { OnOk result (FitRanges ranges.now) }

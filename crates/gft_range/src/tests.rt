@@ -133,8 +133,13 @@ fn a_list_has_at_most_512_items(rt: HostRuntime) -> Result<(), Fail> {
     text.push(b'9')?;
     reads_as(&rt, rt.alloc(), &text, &[range(0, 9)])?;
     text.extend_from_slice(b",x")?;
-    let refused = RangeSet::parse_list(rt.alloc(), &text);
-    assert_eq!(rt; refused.err(), Some(ListError::TooMany { items: 513 }));
+    let refused = RangeSet::parse_list(rt.alloc(), &text)
+        .err()
+        .ok_or("taken")?;
+    assert_eq!(rt; refused, ListError::TooMany { items: 513 });
+    assert_eq!(rt; refused.to_string(rt.alloc())?.as_str(), "513 items");
+    let bad = ListError::BadList { at: 4 };
+    assert_eq!(rt; bad.to_string(rt.alloc())?.as_str(), "bad item at byte 4");
     Ok(())
 }
 

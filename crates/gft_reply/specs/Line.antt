@@ -46,7 +46,7 @@ inner_part code line = record { code = code; text = without_space line; ends = f
 abbrev pub closes : ℕ → Part → Bool
 closes code head = head.ends && (head.code == code)
 
--- a line that follows a reply's first one ends it where its head does so, and else is an inner line
+-- a line that follows a reply's first one ends it if its head does so, and else is an inner line
 abbrev pub later_part : ℕ → Option Part → List ℕ → Part
 later_part code None line = inner_part code line
 later_part code (Some head) line = if closes code head then head else inner_part code line

@@ -69,7 +69,7 @@ impl Replies {
         }
     }
 
-    /// Takes bytes until a reply is whole (RFC 959, section 4.2), or all where none is; hand in what
+    /// Takes bytes until a reply is whole (RFC 959, section 4.2), or all if none is; hand in what
     /// is left.
     ///
     /// `BadReply` if a line stands that can't be there, a line has `LINE_LIMIT` bytes, or a reply

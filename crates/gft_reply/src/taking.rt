@@ -34,7 +34,7 @@ pub(crate) enum Stop {
 }
 
 /// Takes the lines of the bytes that are held, which are part of one line, and of the piece behind
-/// them, up to one that ends the reply. Where none does, the bytes of the line that has begun are
+/// them, up to one that ends the reply. If none does, the bytes of the line that has begun are
 /// held. Nothing behind the end of the reply is copied. `OutOfMemory` leaves the lines that were
 /// taken before, and what was held at the front of what is.
 pub(crate) fn take_piece(
@@ -66,7 +66,7 @@ pub(crate) fn take_piece(
     }
 }
 
-/// Takes the lines of the piece, up to one that ends the reply, and holds what is left where none
+/// Takes the lines of the piece, up to one that ends the reply, and holds what is left if none
 /// does. `OutOfMemory` leaves the lines that were taken before, and what was held.
 fn take_rest(begun: &mut Reply, held: &mut Vec<u8>, piece: &[u8]) -> Result<Stop, OutOfMemory>
     ensures takes { IfOk result (λ stop. TakesPiece begun.old piece.now stop begun.new held.new.items) }

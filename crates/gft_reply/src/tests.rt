@@ -88,14 +88,19 @@ fn a_reply_has_at_most_1023_lines(rt: HostRuntime) -> Result<(), Fail> {
     }
     let mut replies = Replies::new(rt.alloc());
     assert!(rt; replies.feed(&text)?.reply.is_none());
-    let reply = replies.feed(b"211 \r\n")?.reply.ok_or("no reply")?;
+    let got = replies.feed(b"211 \r\n220 ready")?;
+    assert_eq!(rt; got.used, 6);
+    let reply = got.reply.ok_or("no reply")?;
     assert_eq!(rt; reply.lines.count(), 1023);
     assert!(rt; reply.fits());
+    let mut replies = Replies::new(rt.alloc());
     text.extend_from_slice(b"\r\n")?;
     assert!(rt; replies.feed(&text)?.reply.is_none());
     for piece in [b"211 \r\n".as_slice(), b"".as_slice()] {
         assert!(rt; matches!(replies.feed(piece), Err(ReplyError::BadReply)));
     }
+    let message = ReplyError::BadReply.to_string(rt.alloc())?;
+    assert_eq!(rt; message.as_str(), "bad reply");
     Ok(())
 }
 

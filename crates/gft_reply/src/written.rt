@@ -50,7 +50,7 @@ impl Reply {
     }
 }
 
-/// The place of a line that stands here and before these: the last where there is none.
+/// The place of a line that stands here, with these behind it: the last if there are none.
 fn place_before(at: Place, behind: &[Words]) -> Place
     ensures { result ≡ place_before at behind.now }
 {
@@ -87,9 +87,8 @@ fn front_len(at: Place) -> usize
     ensures bound { result ≤ 4 }
 {
     match at {
-        Place::First => 4,
+        Place::First | Place::Last => 4,
         Place::Inner => 1,
-        Place::Last => 4,
     }
 }
 

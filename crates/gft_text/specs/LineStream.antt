@@ -11,7 +11,7 @@ pub data Told : Type 0 where
   -- a line that is too long
   Overlong : Told
 
--- a part is a line where an LF follows it; behind the last LF there is none yet
+-- a part is a line if an LF follows it; behind the last LF there is none yet
 abbrev pub told_of : List ℕ → List (List ℕ) → List Told → List Told
 told_of part [] next = []
 told_of part (following ∷ parts) next = Line (strip_carriage_return part) ∷ next

@@ -32,7 +32,7 @@ pub fn numbers_have_one_value()
     ensures one { (text : List ℕ) (m n : ℕ) → IsNumber text m → IsNumber text n → m ≡ n }
 {}
 
-/// A text without a slash has no fault exactly where it is a name. A name is read again as it
+/// A text without a slash has no fault exactly if it is a name. A name is read again as it
 /// stands, and no text is two names.
 pub fn names_have_one_value()
     ensures names { (name : List ℕ) → IsName name → fault_of name ≡ None }

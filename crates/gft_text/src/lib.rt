@@ -2,7 +2,7 @@
 //! and tables of words. A text is bytes; only what its grammar names is taken.
 //!
 //! Begin with [`Lines::feed`], and with `specs/LineStream.antt`, which says what a stream tells. Each
-//! reader answers a value exactly where the grammar in `specs/` relates the text to it; no text has
+//! reader answers a value exactly if the grammar in `specs/` relates the text to it; no text has
 //! two values. The laws have empty bodies and serve proofs alone. Nothing here reads a socket.
 #![tactic(auto)]
 

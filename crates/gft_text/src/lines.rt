@@ -76,7 +76,7 @@ impl Lines {
         }
     }
 
-    /// Takes the bytes up to the next LF and that LF, or all where there is none. The feed behind a
+    /// Takes the bytes up to the next LF and that LF, or all if there is none. The feed behind a
     /// whole line begins a new one; hand in what is left.
     ///
     /// `TooLong` if `LINE_LIMIT` bytes were taken since the last line's end and none is an LF; from
