@@ -23,5 +23,4 @@ pub const LIMIT: u64 = 0xffff_ffff_ffff;
 /// The definitions of all crates cite the limit by its name: here is its number.
 pub fn limit_is_as_promised()
     ensures { LIMIT ≡ 281474976710655 }
-{
-}
+{}

@@ -1,22 +1,18 @@
 -- No line is two commands, none is a command and refused, and a command that some line is fits.
-use Rattle.std.proofs.Common.{◌≡◌, ◌≢◌, ℕ, Bool, true, false, not, ◌||◌, cond, eqb, ◌⊎◌, List, [], ◌∷◌, ◌++◌, length, length-append, get_or, inl, inr, zero, suc, refl, ap, sym, ◌∙◌, arith}
+use Rattle.std.proofs.Common.{◌≡◌, ◌≢◌, ℕ, Bool, true, false, cond, eqb, List, [], ◌∷◌, ◌++◌, length, length-append, inl, zero, suc, refl, ap, sym, ◌∙◌, arith}
 use Rattle.std.specs.Char.{is_ascii_alphabetic, to_ascii_uppercase}
-use Rattle.std.specs.List.{list_all}
-use Rattle.std.specs.Result.{MatchResult}
-use Rattle.std.specs.Prelude.{Result, Ok, Err}
 use Rattle.std.proofs.lemmas.Bool.Decides.{nat_tests}
 use Rattle.std.proofs.lemmas.List.Elements.{All-cons}
-use Rattle.gft_base.specs.Words.{AreSpaces, Lacks, line_feed, space}
+use Rattle.gft_base.specs.Words.{Lacks, line_feed, space}
 use Rattle.gft_base.proofs.Lemmas.{IsNumber-one}
 use Rattle.gft_range.proofs.Lemmas.{IsList-few, IsList-one}
-use Rattle.gft_text.specs.Words.{folded, same_bytes}
 use Rattle.gft_text.proofs.Lemmas.{IsHostPort-one}
 use Rattle.gft_opts.proofs.Lemmas.{IsEret-fits, IsEret-one, IsEsto-fits, IsEsto-one, IsRetr-fits, IsRetr-one, IsTargets-fits, IsTargets-one}
-use Rattle.gft_command.specs.Commands.{IsSame, RefusesLine, RefusesText, SaysCommand, SaysNone, parameter_in}
-use Rattle.gft_command.specs.Parameters.{FitsBytes, FitsParameter, IsCapital, IsLetter, IsParameter, IsSendable, Parameter, TakesMemory, behind_verb}
+use Rattle.gft_command.specs.Commands.{IsSame, RefusesLine, RefusesText, SaysCommand, parameter_in}
+use Rattle.gft_command.specs.Parameters.{FitsBytes, FitsParameter, IsCapital, IsLetter, IsParameter, IsSendable, Parameter, behind_verb}
 use Rattle.gft_command.specs.Parameters.{Nothing, Text, Letter, Number, LeadingNumber, Options, Address, Targets, Ranges, Part, Place}
 use Rattle.gft_command.specs.Table.{is_verb, parameter_of, verb_of}
-use Rattle.gft_command.specs.Telnet.{doubled, past_signals, telnet_escape, telnet_text, undoubled}
+use Rattle.gft_command.specs.Telnet.{doubled, telnet_text}
 use Rattle.gft_command.specs.Written.{FitsCommand, text_for}
 use Rattle.gft_command.specs.declared.command.Command.{Command}
 use Rattle.gft_command.specs.declared.command.Command.TheVariants as commands

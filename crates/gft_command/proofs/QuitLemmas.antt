@@ -1,25 +1,23 @@
 -- A line that is QUIT is never refused memory.
-use Rattle.std.proofs.Common.{◌≡◌, ℕ, ◌+◌, ◌<◌, Bool, true, false, not, ◌||◌, ◌&&◌, cond, eqb, List, [], ◌∷◌, ◌++◌, length, get_or, take, drop, inl, inr, zero, suc, refl, ap, sym, ◌∙◌, subst, arith, codes, drop-cons, add-one}
+use Rattle.std.proofs.Common.{◌≡◌, ℕ, ◌+◌, Bool, true, false, ◌&&◌, cond, eqb, List, [], ◌∷◌, ◌++◌, length, get_or, take, drop, inl, inr, zero, suc, refl, ap, sym, ◌∙◌, subst, arith, codes, drop-cons}
 use Rattle.std.specs.Prelude.{IfErr, Result, Ok, Err}
 use Rattle.std.specs.Char.{to_ascii_lowercase}
-use Rattle.std.specs.List.{All, before_first, after_first, position_or_len}
+use Rattle.std.specs.List.{before_first, after_first, position_or_len}
 use Rattle.std.specs.Result.{MatchResult}
 use Rattle.std.proofs.lemmas.Bool.{cases_lt, eqb-true}
 use Rattle.std.proofs.lemmas.List.{take-append-drop, take_all}
-use Rattle.std.proofs.Math.ListN.{drop_of_length-le}
 use Rattle.std.proofs.lemmas.List.Elements.{All-append, All-cons, All-nil}
 use Rattle.std.proofs.lemmas.List.Sums.{passes_at_first}
 use Rattle.gft_base.specs.Words.{AreSpaces, Lacks, space}
-use Rattle.gft_text.specs.Words.{folded, same_bytes}
+use Rattle.gft_text.specs.Words.{folded}
 use Rattle.gft_text.proofs.Lemmas.{literal_lacks}
 use Rattle.gft_command.specs.Commands.{CouldTakeMemory, IsCommand, IsSame, RefusesLine, RefusesText, SaysCommand, parameter_in, verb_in}
 use Rattle.gft_command.specs.Parameters.{Nothing, Parameter, TakesMemory}
-use Rattle.gft_command.specs.Table.{parameter_of, verb_of}
+use Rattle.gft_command.specs.Table.{parameter_of}
 use Rattle.gft_command.specs.Telnet.{telnet_escape, telnet_text, undoubled}
 use Rattle.gft_command.specs.declared.command.Command.{Command}
 use Rattle.gft_command.specs.declared.command.Command.TheVariants as commands
 use Rattle.gft_command.specs.declared.error.CommandError.{CommandError}
-use Rattle.gft_command.specs.declared.error.CommandError.TheVariants.{OutOfMemory}
 use Rattle.gft_command.proofs.LawLemmas.{line_refusal, one, taken}
 use Rattle.gft_command.proofs.TelnetLemmas.{undoubled-cons}
 use Rattle.gft_command.proofs.VerbLemmas.{one_form, same_form}

@@ -1,10 +1,10 @@
 -- The text of a row: it has the row's verb and value, and stands in one line.
-use Rattle.std.proofs.Common.{◌≡◌, ℕ, ◌+◌, ◌<◌, ◌≤◌, ◌&&◌, Bool, true, false, cond, eqb, List, [], ◌∷◌, ◌++◌, length, length-append, append-nil, append_assoc, get_or, zero, suc, refl, ap, sym, ◌∙◌, arith, lit≤, lit<}
+use Rattle.std.proofs.Common.{◌≡◌, ℕ, ◌<◌, ◌≤◌, ◌&&◌, Bool, true, false, cond, eqb, List, [], ◌∷◌, ◌++◌, length, length-append, append-nil, append_assoc, get_or, zero, suc, refl, ap, sym, ◌∙◌, arith, lit≤}
 use Rattle.std.specs.Fmt.{decimal}
-use Rattle.std.specs.List.{All, position_or_len}
+use Rattle.std.specs.List.{position_or_len}
 use Rattle.std.proofs.Math.ListN.{drop_of_length-le}
 use Rattle.std.proofs.Math.Seq.{drop-append-add, get_or-append_seam, take-append_seam}
-use Rattle.std.proofs.lemmas.Bool.{and_from, and_parts, leb-true, lt-ltb, ne_eqb}
+use Rattle.std.proofs.lemmas.Bool.{and_parts, leb-true, ne_eqb}
 use Rattle.std.proofs.lemmas.List.{get_or_append_left, take_all}
 use Rattle.std.proofs.lemmas.List.Elements.{All-append, All-cons, All-nil}
 use Rattle.std.proofs.lemmas.List.Sums.{AllPass-from_list_all, position_or_len_is}
@@ -15,7 +15,7 @@ use Rattle.gft_text.specs.Words.{Line, folded, told}
 use Rattle.gft_text.specs.declared.TheConstants.{LINE_LIMIT}
 use Rattle.gft_text.proofs.Lemmas.{told-line, without_return}
 use Rattle.gft_command.specs.Commands.{SaysCommand, parameter_in, verb_in}
-use Rattle.gft_command.specs.Parameters.{FitsBytes, FitsParameter, IsCapital, IsParameter, IsShort, IsSendable, Parameter, behind_verb, options_text, parameter_text}
+use Rattle.gft_command.specs.Parameters.{FitsBytes, FitsParameter, IsCapital, IsParameter, IsShort, Parameter, behind_verb, options_text, parameter_text}
 use Rattle.gft_command.specs.Parameters.{Nothing, Text, Letter, Number, LeadingNumber, Options, Address, Targets, Ranges, Part, Place}
 use Rattle.gft_command.specs.Table.{is_verb, row, row_of}
 use Rattle.gft_command.specs.Telnet.{doubled, past_signals, telnet_escape, telnet_text, undoubled}

@@ -1,5 +1,5 @@
 -- The table of verbs, and what follows from its rows.
-use Rattle.std.proofs.Common.{◌≡◌, ℕ, ◌<◌, Bool, true, false, not, cond, eqb, ◌||◌, List, [], ◌∷◌, length, get_or, map, zero, suc, refl, ap, sym, ◌∙◌, arith}
+use Rattle.std.proofs.Common.{◌≡◌, ℕ, ◌<◌, Bool, true, false, not, cond, ◌||◌, List, [], ◌∷◌, length, get_or, map, zero, suc, refl, ap, sym, ◌∙◌, arith}
 use Rattle.std.specs.Borrow.{Bor}
 use Rattle.std.specs.Prelude.{IfSome, slice_get}
 use Rattle.std.proofs.lemmas.Option.{slice_get-get_or}
@@ -8,7 +8,7 @@ use Rattle.std.proofs.lemmas.Bool.{and_parts, eqb-true}
 use Rattle.gft_text.specs.Words.{folded, same_bytes}
 use Rattle.gft_text.proofs.Lemmas.{texts_apart}
 use Rattle.gft_command.specs.Commands.{IsSame}
-use Rattle.gft_command.specs.Parameters.{Parameter, TakesMemory}
+use Rattle.gft_command.specs.Parameters.{Parameter}
 use Rattle.gft_command.specs.Parameters.{Nothing, Text, Letter, Number, LeadingNumber, Options, Address, Targets, Ranges, Part, Place}
 use Rattle.gft_command.specs.Table.{AreOthers, IsPlaceOf, parameter_of, verb_of}
 use Rattle.gft_command.specs.declared.command.Command.{Command}

@@ -4,7 +4,7 @@ use Rattle.std.specs.List.{before_first, after_first}
 use Rattle.gft_base.specs.Words.{Lacks, space}
 use Rattle.gft_text.specs.Words.{folded}
 use Rattle.gft_command.specs.Parameters.{IsParameter, TakesMemory}
-use Rattle.gft_command.specs.Table.{row_of, parameter_of, verb_of}
+use Rattle.gft_command.specs.Table.{parameter_of, verb_of}
 use Rattle.gft_command.specs.Telnet.{past_signals, telnet_escape, telnet_text}
 use Rattle.gft_command.specs.declared.command.Command.{Command}
 use Rattle.gft_command.specs.declared.command.Command.TheVariants as commands

@@ -6,7 +6,7 @@ use Rattle.std.specs.List.{before_first, after_first}
 use Rattle.gft_base.specs.Words.{AreSpaces, IsNumber, Lacks, line_feed, parts_at, space}
 use Rattle.gft_range.specs.declared.Range.{Range}
 use Rattle.gft_range.specs.declared.TheConstants.{MAX_ITEMS}
-use Rattle.gft_range.specs.Words.{IsList, list_text}
+use Rattle.gft_range.specs.Words.{IsList, items_of, list_text}
 use Rattle.gft_text.specs.declared.HostPort.{HostPort}
 use Rattle.gft_text.specs.declared.TheConstants.{LINE_LIMIT}
 use Rattle.gft_text.specs.Words.{IsHostPort, host_port_text}
@@ -96,7 +96,7 @@ TakesMemory text (LeadingNumber _) = ⊥
 TakesMemory text (Options _) = ⊥
 TakesMemory text (Address _) = ⊥
 TakesMemory text (Targets _) = length (parts_at space text) ≤ MAX_TARGETS
-TakesMemory text (Ranges _) = Unit {0}
+TakesMemory text (Ranges _) = length (items_of text) ≤ MAX_ITEMS
 TakesMemory text (Part _) = (eret : Eret) × IsEret text eret
 TakesMemory text (Place _) = (esto : Esto) × IsEsto text esto
 

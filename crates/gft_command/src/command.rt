@@ -27,7 +27,7 @@ use gft_text::{HostPort, Words};
 use std::alloc::Global;
 
 /// A command of the control conversation, and what it carries.
-#[derive(Drop)]
+#[derive(Drop, PartialEq)]
 pub enum Command {
     User(Words),
     Pass(Words),

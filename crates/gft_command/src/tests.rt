@@ -1,5 +1,6 @@
 use super::*;
-use gft_text::Words;
+use gft_opts::Esto;
+use gft_text::{HostPort, Words};
 use std::alloc::Global;
 use std::process::Abort;
 use std::test::Fail;
@@ -117,23 +118,21 @@ fn a_line_is_refused_by_name(rt: HostRuntime) {
 #[test]
 fn a_command_carries_what_the_line_says(rt: HostRuntime) -> Result<(), Fail> {
     let alloc = rt.alloc();
-    assert!(rt; matches!(parse(alloc, b"type i n")?, Command::SetType(b'I')));
-    assert!(rt; matches!(parse(alloc, b"ALLO 10 R 5")?, Command::Allo(10)));
-    let Command::Retr(path) = parse(alloc, b"RETR a\xff\xffb")? else {
-        assert!(rt; false, "not RETR");
-        return Ok(());
+    let path = Words::from_bytes(alloc, b"a\xffb")?;
+    let at = HostPort {
+        host: [127, 0, 0, 1],
+        port: 51210,
     };
-    assert!(rt; path.bytes() == b"a\xffb".as_slice());
-    let Command::Port(at) = parse(alloc, b"PORT 127,0,0,1,200,10")? else {
-        assert!(rt; false, "not PORT");
-        return Ok(());
+    let part = Esto {
+        offset: 5,
+        path: Words::from_bytes(alloc, b"a.dat")?,
     };
-    assert_eq!(rt; at.port, 51210);
-    let Command::Esto(esto) = parse(alloc, b"ESTO A 5 a.dat")? else {
-        assert!(rt; false, "not ESTO");
-        return Ok(());
-    };
-    assert_eq!(rt; esto.offset, 5);
+    assert!(rt; parse(alloc, b"type i n")? == Command::SetType(b'I'));
+    assert!(rt; parse(alloc, b"ALLO 10 R 5")? == Command::Allo(10));
+    assert!(rt; parse(alloc, b"ALLO 10 R 5")? != Command::Sbuf(10));
+    assert!(rt; parse(alloc, b"RETR a\xff\xffb")? == Command::Retr(path));
+    assert!(rt; parse(alloc, b"PORT 127,0,0,1,200,10")? == Command::Port(at));
+    assert!(rt; parse(alloc, b"ESTO A 5 a.dat")? == Command::Esto(part));
     Ok(())
 }
 

@@ -11,7 +11,7 @@ use gft_text::Words;
 use std::alloc::Global;
 
 /// A part of a file to be sent (GFD.20, ERET with the module `P`).
-#[derive(Debug, Drop)]
+#[derive(Debug, Drop, PartialEq)]
 pub struct Eret {
     /// Where the part begins, in bytes, at most 2^48 - 1.
     pub offset: u64,
@@ -22,7 +22,7 @@ pub struct Eret {
 }
 
 /// Where a part of a file is to be stored (GFD.20, ESTO with the module `A`).
-#[derive(Debug, Drop)]
+#[derive(Debug, Drop, PartialEq)]
 pub struct Esto {
     /// What is added to the offsets of the blocks that come, in bytes, at most 2^48 - 1.
     pub offset: u64,

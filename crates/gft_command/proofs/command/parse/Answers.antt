@@ -1,4 +1,4 @@
-use Rattle.std.proofs.Common.{◌≡◌, ap, sym, ◌∙◌}
+use Rattle.std.proofs.Common.{ap, sym, ◌∙◌}
 use Rattle.gft_command.specs.Telnet.{past_signals, undoubled}
 use Rattle.gft_command.proofs.QuitLemmas.{line_read, quit_plain}
 use Rattle.gft_command.proofs.command.parse.Goals as goal

@@ -1,4 +1,4 @@
-use Rattle.std.proofs.Common.{rules, ◌++◌, ◌∷◌, [], append_assoc}
+use Rattle.std.proofs.Common.{rules, append_assoc}
 use Rattle.gft_command.proofs.RowLemmas.{value_text}
 use Rattle.gft_command.proofs.forms.written.Goals as goal
 

@@ -1,4 +1,3 @@
-use Rattle.std.proofs.Common.{sym, ◌∙◌}
 use Rattle.gft_command.proofs.RowLemmas.{verb_text}
 use Rattle.gft_command.proofs.forms.nothing.written.Goals as goal
 

@@ -1,4 +1,4 @@
-use Rattle.std.proofs.Common.{◌+◌, rules, arith}
+use Rattle.std.proofs.Common.{◌+◌, arith}
 use Rattle.gft_command.proofs.PartFits.{eret_fits, both_ways_of}
 use Rattle.gft_command.proofs.forms.part.PartForm.fits.Goals as goal
 
