@@ -1,7 +1,11 @@
 pub mod Drive
 pub mod File
+pub mod Layout
 pub mod Memory
+pub mod Ranges
+pub mod Replay
+pub mod Replaying
 pub mod Sink
 pub mod Streams
-pub mod Write
 pub mod Words
+pub mod Write

@@ -3,11 +3,12 @@ use Rattle.std.specs.Prelude.{◌≡◌, ℕ, Bool, List, [], length, slice_inde
 use Rattle.gft_drive.specs.declared.failures.DriveCall.{DriveCall}
 use Rattle.gft_drive.specs.declared.failures.FailAt.{FailAt}
 use Rattle.gft_drive.specs.Drive.{Image}
+use Rattle.gft_drive.specs.Replay.{Recorded, image_after}
 
 pub record Memory : Type 0 where
   pub label : List ℕ
-  -- what a read gives
-  pub image : Image
+  -- what was there first, and what was done since
+  pub disk : Recorded
   -- the calls that were kept, the oldest first
   pub calls : List DriveCall
   -- how often a call failed
@@ -19,11 +20,16 @@ pub record Memory : Type 0 where
   -- the calls that are to fail, each counted from now on
   pub failing : List FailAt
 
--- no bytes are written, and the other part is this many zeros
-pub record IsNew (ranges_len : ℕ) (image : Image) : Type 0 where
-  pub empty : image.bytes ≡ []
-  pub size : length image.ranges ≡ ranges_len
-  pub zeros : (x : ℕ) → slice_index image.ranges x ≡ 0
+-- what a read gives
+abbrev pub image_of : Memory → Image
+image_of drive = image_after drive.disk.first drive.disk.steps
+
+-- no bytes are written, the other part is this many zeros, and nothing was done
+pub record IsNew (ranges_len : ℕ) (disk : Recorded) : Type 0 where
+  pub empty : disk.first.bytes ≡ []
+  pub size : length disk.first.ranges ≡ ranges_len
+  pub zeros : (x : ℕ) → slice_index disk.first.ranges x ≡ 0
+  pub untouched : disk.steps ≡ []
 
 pub record Given : Type 0 where
   -- the bytes that are left

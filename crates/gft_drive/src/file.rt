@@ -1,25 +1,30 @@
 ghost use Rattle.std.specs.Prelude.{◌≡◌, ◌≤◌, length, string_bytes, IfOk, IsOk};
 ghost use Rattle.gft_base.specs.Words.{HasCause};
 
+use crate::RANGES_LEN;
 use crate::drive::{Drive, Part};
-use gft_base::{Failed, Faults};
-use std::alloc::Global;
+use gft_base::{Failed, Faults, OutOfMemory};
+use std::alloc::{AllocError, Global};
 use std::fs::{File, Files};
-use std::io;
 use std::io::ErrorKind;
 use std::marker::Model;
 use std::os::unix::fs::FileExt;
 use std::path::Path;
+use std::{fs, io};
 
-/// The drive over a file: the trusted edge, which tells no contents. Its label is its path's bytes.
+/// The drive over the files `path` and `path.gfr`: the trusted edge, which tells no contents. Its
+/// label is its path's bytes.
 ///
-/// It holds the `Bytes` part alone: each call on the `Ranges` part fails. It touches no file before
-/// its first call, opens the file at each call, and makes it if it is absent.
+/// It touches no file before its first call, opens a part's file at each call, and makes it if it
+/// is absent: the second file whole, under a name that no client can give, which is then changed.
 #[derive(Drop)]
 pub struct FileDrive<R: Files<File = File> + Alloc<A = Global> + Clone + Drop> {
     rt: R,
     path: String,
-    // the folder was synced since the file is known to be there
+    ranges_path: String,
+    // where the second file is made
+    making_path: String,
+    // the folder was synced since the files in use are known to be there
     is_folder_synced: bool,
     faults: Faults,
 }
@@ -34,35 +39,41 @@ impl<R: Files<File = File> + Alloc<A = Global> + Clone + Drop> Model for FileDri
 }
 
 impl<R: Files<File = File> + Alloc<A = Global> + Clone + Drop> FileDrive<R> {
-    /// A drive over the file at this path.
-    pub fn at(rt: R, path: String) -> FileDrive<R>
-        ensures { result ≡ record { label = string_bytes path; faults = 0 } }
+    /// A drive over the file at this path, and over the one beside it, whose name ends in `.gfr`.
+    pub fn at(rt: R, path: String) -> Result<FileDrive<R>, OutOfMemory>
+        ensures { IfOk result (λ drive. drive ≡ record { label = string_bytes path; faults = 0 }) }
     {
-        FileDrive {
+        let alloc = rt.alloc();
+        let ranges_path = format!(in alloc; "{path}.gfr")?;
+        let making_path = making_path(alloc, path.as_str())?;
+        Ok(FileDrive {
             rt,
             path,
+            ranges_path,
+            making_path,
             is_folder_synced: false,
             faults: Faults::new(),
-        }
+        })
     }
 
-    // Opens the file, and makes it if it is absent. A name that was made stays after a crash
-    // only once its folder is synced: so that is done before the first use.
+    // Opens a part's file, and makes it if it is absent. A name that was made stays after a
+    // crash only once its folder is synced: so that is done before the first use.
     fn open(&mut self, part: Part) -> io::Result<File>
         ensures { self.new ≡ self.old }
     {
-        if part == Part::Ranges {
-            return Err(io::Error::from(ErrorKind::Unsupported));
-        }
-        let file = match open_both_ways(&self.rt, self.path.as_str()) {
+        let path = path_of(self.path.as_str(), self.ranges_path.as_str(), part);
+        let file = match open_both_ways(&self.rt, path) {
             Err(e) if e.kind() == ErrorKind::NotFound => {
                 self.is_folder_synced = false;
-                open_or_make(&self.rt, self.path.as_str())?
+                match part {
+                    Part::Bytes => open_or_make(&self.rt, path)?,
+                    Part::Ranges => make_ranges(&self.rt, self.making_path.as_str(), path)?,
+                }
             }
             other => other?,
         };
         if !self.is_folder_synced {
-            sync_folder(&self.rt, self.path.as_str())?;
+            sync_folder(&self.rt, path)?;
             self.is_folder_synced = true;
         }
         Ok(file)
@@ -82,10 +93,13 @@ impl<R: Files<File = File> + Alloc<A = Global> + Clone + Drop> FileDrive<R> {
     }
 }
 
-impl<R: Files<File = File> + Alloc<A = Global> + Clone + Drop> Drive for FileDrive<R> {
+impl<R: Files<File = File> + Alloc<A = Global> + Clone + Drop + Send> Drive for FileDrive<R> {
     ghost use Rattle.std.specs.Prelude.{None};
+    ghost use Rattle.gft_drive.specs.File.{file_state, file_lawful};
 
-    ghost state = { λ drive. record { label = drive.label; contents = None; faults = drive.faults } };
+    ghost state = { λ drive. file_state drive };
+
+    ghost lawful = { λ drive. file_lawful drive };
 
     fn len(&mut self, part: Part) -> Result<u64, Failed> {
         let done = self.open(part).and_then(|file| Ok(file.metadata()?.len()));
@@ -120,6 +134,13 @@ impl<R: Files<File = File> + Alloc<A = Global> + Clone + Drop> Drive for FileDri
     }
 }
 
+fn path_of<'x>(bytes: &'x str, ranges: &'x str, part: Part) -> &'x str {
+    match part {
+        Part::Bytes => bytes,
+        Part::Ranges => ranges,
+    }
+}
+
 fn open_both_ways<R: Files>(rt: &R, path: &str) -> io::Result<R::File> {
     File::options().read(true).write(true).open(rt, path)
 }
@@ -130,6 +151,30 @@ fn open_or_make<R: Files>(rt: &R, path: &str) -> io::Result<R::File> {
         .write(true)
         .create(true)
         .open(rt, path)
+}
+
+// The name under which the second file of `path` is made: no client can give one that begins so.
+fn making_path(alloc: Global, path: &str) -> Result<String, AllocError> {
+    let name = Path::new(path).file_name().unwrap_or("");
+    match Path::new(path).parent() {
+        Some(folder) if !folder.as_str().is_empty() => {
+            format!(in alloc; "{}/.{name}.new.gfr", folder.as_str())
+        }
+        _ => format!(in alloc; ".{name}.new.gfr"),
+    }
+}
+
+// Makes the second file whole: under another name, and once it is on the disk under its own.
+fn make_ranges<R: Files<File = File>>(rt: &R, making: &str, path: &str) -> io::Result<File> {
+    let file = File::options()
+        .write(true)
+        .create(true)
+        .truncate(true)
+        .open(rt, making)?;
+    file.set_len(RANGES_LEN)?;
+    file.sync_all()?;
+    fs::rename(rt, making, path)?;
+    open_both_ways(rt, path)
 }
 
 // What was made beside `path` stays after a crash.

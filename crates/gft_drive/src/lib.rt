@@ -3,6 +3,8 @@
 //! file tells none.
 #![tactic(auto)]
 
+mod crash;
+mod disk;
 mod drive;
 mod failures;
 mod file;
@@ -16,6 +18,7 @@ mod streams;
 #[cfg(test)]
 mod tests;
 
+pub use crash::CrashChoice;
 pub use drive::{Drive, Part};
 pub use failures::{CallKind, DriveCall, FailAt};
 pub use file::FileDrive;
@@ -30,5 +33,10 @@ pub use streams::{ReadSource, WriteSink};
 /// The bytes of the `Ranges` part of a new drive, and its room.
 pub const RANGES_LEN: u64 = 2_097_216;
 
-// The definitions of all crates cite the name: its number is pinned here.
+/// The most ranges of a file.
+pub const MAX_RANGES: usize = 16_384;
+
+// The definitions of all crates cite the names: their numbers are pinned here.
 const _: () = prove!(RANGES_LEN == 2_097_216);
+
+const _: () = prove!(MAX_RANGES == 16_384);

@@ -2,10 +2,13 @@ ghost use Rattle.std.specs.Prelude.{◌≡◌, ◌+◌, ◌-◌, ◌<◌, ◌≤
 ghost use Rattle.std.specs.Prelude.{[], ◌∷◌, ◌++◌, length, take, drop, slice_get, slice_index, vec_capacity};
 ghost use Rattle.std.specs.Prelude.{IfOk, OnOk, OnErr, IsOk};
 ghost use Rattle.gft_base.specs.Words.{HasCause};
-ghost use Rattle.gft_drive.specs.Memory.{IsNew};
-ghost use Rattle.gft_drive.specs.Write.{Written};
+ghost use Rattle.gft_drive.specs.Drive.{Image};
+ghost use Rattle.gft_drive.specs.Memory.{IsNew, image_of};
+ghost use Rattle.gft_drive.specs.Replay.{ImagesAfter};
 
 use crate::RANGES_LEN;
+use crate::crash::CrashChoice;
+use crate::disk::{Disk, NoRoom};
 use crate::drive::{Drive, Part};
 use crate::failures::{CallKind, DriveCall, FailAt};
 use gft_base::{Failed, Faults, OutOfMemory};
@@ -15,12 +18,13 @@ use std::marker::Model;
 /// The most calls that are kept.
 const MAX_KEPT_CALLS: u32 = 65_536;
 
-/// A drive in memory, which tells its contents. It takes its memory when it is made.
+/// A drive in memory, which tells its contents, and keeps what was done to it: so it has the images
+/// that a crash may leave. A write that is refused memory for that fails.
 #[derive(Drop)]
 pub struct MemoryDrive {
+    alloc: Global,
     label: Vec<u8>,
-    bytes: Vec<u8>,
-    ranges: Vec<u8>,
+    disk: Disk,
     capacity: u64,
     calls_left: u32,
     failing: Vec<FailAt>,
@@ -35,7 +39,7 @@ impl Model for MemoryDrive {
 
     ghost view = { λ d. record {
       label = d.label.items;
-      image = record { bytes = d.bytes.items; ranges = d.ranges.items };
+      disk = d.disk;
       calls = d.calls.items;
       faults = d.faults;
       capacity = d.capacity;
@@ -43,9 +47,6 @@ impl Model for MemoryDrive {
       failing = d.failing.items;
     } };
 }
-
-// A write doesn't fit.
-struct NoRoom;
 
 impl MemoryDrive {
     /// A drive whose `Bytes` part is empty and has room for `capacity` bytes, and whose `Ranges`
@@ -60,7 +61,7 @@ impl MemoryDrive {
         failing: &[FailAt],
     ) -> Result<MemoryDrive, OutOfMemory>
         ensures label { IfOk result (λ drive. drive.label ≡ label.now) }
-        ensures image { IfOk result (λ drive. IsNew RANGES_LEN drive.image) }
+        ensures image { IfOk result (λ drive. IsNew RANGES_LEN drive.disk) }
         ensures calls { IfOk result (λ drive. drive.calls ≡ []) }
         ensures faults { IfOk result (λ drive. drive.faults ≡ 0) }
         ensures capacity { IfOk result (λ drive. drive.capacity ≡ capacity) }
@@ -68,9 +69,9 @@ impl MemoryDrive {
         ensures failing { IfOk result (λ drive. drive.failing ≡ failing.now) }
     {
         Ok(MemoryDrive {
+            alloc,
             label: Vec::from_slice(alloc, label)?,
-            bytes: Vec::with_capacity(alloc, capacity as usize)?,
-            ranges: zeros(alloc, RANGES_LEN as usize)?,
+            disk: Disk::new(alloc, capacity)?,
             capacity,
             calls_left: calls,
             failing: Vec::from_slice(alloc, failing)?,
@@ -81,16 +82,16 @@ impl MemoryDrive {
 
     /// The bytes of the `Bytes` part.
     pub fn bytes(&self) -> &[u8]
-        ensures { result.now ≡ self.now.image.bytes }
+        ensures { result.now ≡ (image_of self.now).bytes }
     {
-        &self.bytes
+        self.disk.content(Part::Bytes)
     }
 
     /// The bytes of the `Ranges` part.
     pub fn ranges_part(&self) -> &[u8]
-        ensures { result.now ≡ self.now.image.ranges }
+        ensures { result.now ≡ (image_of self.now).ranges }
     {
-        &self.ranges
+        self.disk.content(Part::Ranges)
     }
 
     /// How many calls were kept.
@@ -107,10 +108,45 @@ impl MemoryDrive {
         self.calls.get(i).copied()
     }
 
+    /// The drive that a crash leaves, by the choice: with the same label and room, and no call of it
+    /// fails. Where memory is refused for it, nothing is lost.
+    pub fn crash(self, choice: CrashChoice) -> MemoryDrive
+        ensures label { result.label ≡ self.label }
+        ensures images { (image : Image) → ImagesAfter result.disk.first result.disk.steps image
+            → ImagesAfter self.disk.first self.disk.steps image }
+        ensures newest { choice ≡ CrashChoice.New → image_of result ≡ image_of self }
+        ensures capacity { result.capacity ≡ self.capacity }
+        ensures calls_left { result.calls_left ≡ u32.MAX }
+        ensures fails { (result.failing ≡ []) × (result.faults ≡ 0) }
+        ensures calls { result.calls ≡ [] }
+    {
+        let alloc = self.alloc;
+        let capacity = self.capacity;
+        let MemoryDrive { label, disk, .. } = self;
+        MemoryDrive {
+            alloc,
+            label,
+            disk: disk.crash(alloc, choice),
+            capacity,
+            calls_left: u32::MAX,
+            failing: Vec::new(alloc),
+            calls: Vec::new(alloc),
+            faults: Faults::new(),
+        }
+    }
+
+    // The most bytes of a part.
+    fn room(&self, part: Part) -> u64 {
+        match part {
+            Part::Bytes => self.capacity,
+            Part::Ranges => RANGES_LEN,
+        }
+    }
+
     // Counts a call and keeps it, and fails if it is to fail.
     fn begin(&mut self, kind: CallKind, part: Part, at: u64, len: u64) -> Result<(), Failed>
         ensures label { self.new.label ≡ self.old.label }
-        ensures image { self.new.image ≡ self.old.image }
+        ensures disk { self.new.disk ≡ self.old.disk }
         ensures left { OnOk result (self.old.calls_left ≡ self.new.calls_left + 1) }
         ensures kept { OnOk result (length self.old.calls < MAX_KEPT_CALLS
             → self.new.calls
@@ -138,7 +174,7 @@ impl MemoryDrive {
     // What the caller of a write is told.
     fn told(&mut self, done: Result<(), NoRoom>) -> Result<(), Failed>
         ensures label { self.new.label ≡ self.old.label }
-        ensures image { self.new.image ≡ self.old.image }
+        ensures disk { self.new.disk ≡ self.old.disk }
         ensures variant { IsOk result ↔ IsOk done }
         ensures cause { HasCause self.old.faults self.new.faults result }
     {
@@ -150,60 +186,50 @@ impl MemoryDrive {
 }
 
 impl Drive for MemoryDrive {
-    ghost use Rattle.std.specs.Prelude.{Some};
+    ghost use Rattle.gft_drive.specs.Replay.{state_after};
+    ghost use Rattle.gft_drive.specs.Replaying.{lawful};
 
-    ghost state = { λ drive.
-        record { label = drive.label; contents = Some drive.image; faults = drive.faults } };
+    ghost state = { λ drive. state_after drive.label drive.disk drive.faults };
+
+    ghost lawful = { λ drive. lawful drive.label drive.disk drive.faults };
 
     fn len(&mut self, part: Part) -> Result<u64, Failed> {
         self.begin(CallKind::Len, part, 0, 0)?;
-        Ok(match part {
-            Part::Bytes => self.bytes.len() as u64,
-            Part::Ranges => self.ranges.len() as u64,
-        })
+        Ok(self.disk.content(part).len() as u64)
     }
 
     fn read(&mut self, part: Part, at: u64, buf: &mut [u8]) -> Result<usize, Failed> {
         self.begin(CallKind::Read, part, at, buf.len() as u64)?;
-        Ok(match part {
-            Part::Bytes => copy_out(&self.bytes, at, buf),
-            Part::Ranges => copy_out(&self.ranges, at, buf),
-        })
+        Ok(copy_out(self.disk.content(part), at, buf))
     }
 
     fn write_at(&mut self, part: Part, at: u64, bytes: &[u8]) -> Result<(), Failed> {
-        self.begin(CallKind::Write, part, at, bytes.len() as u64)?;
-        match part {
-            Part::Bytes => {
-                let done = overwrite(&mut self.bytes, self.capacity, at, bytes);
-                self.told(done)
+        let reaches = self.calls_left > 0;
+        let Ok(kept) = Vec::from_slice(self.alloc, bytes) else {
+            return Err(self.faults.rise());
+        };
+        if let Err(failed) = self.begin(CallKind::Write, part, at, bytes.len() as u64) {
+            if reaches {
+                self.disk.lose(part, at, kept);
             }
-            Part::Ranges => {
-                let done = overwrite(&mut self.ranges, RANGES_LEN, at, bytes);
-                self.told(done)
-            }
+            return Err(failed);
         }
+        let room = self.room(part);
+        let done = self.disk.write(room, part, at, kept);
+        self.told(done)
     }
 
     fn cut(&mut self, part: Part, len: u64) -> Result<(), Failed> {
         self.begin(CallKind::Cut, part, 0, len)?;
-        match part {
-            Part::Bytes => self.bytes.truncate(len as usize),
-            Part::Ranges => self.ranges.truncate(len as usize),
-        }
-        Ok(())
+        let done = self.disk.cut(part, len);
+        self.told(done)
     }
 
     fn sync(&mut self, part: Part) -> Result<(), Failed> {
-        self.begin(CallKind::Sync, part, 0, 0)
+        self.begin(CallKind::Sync, part, 0, 0)?;
+        let done = self.disk.sync(part);
+        self.told(done)
     }
-}
-
-fn zeros(alloc: Global, count: usize) -> Result<Vec<u8>, OutOfMemory>
-    ensures size { IfOk result (λ bytes. length bytes.items ≡ count) }
-    ensures zeros { IfOk result (λ bytes. (x : ℕ) → slice_index bytes.items x ≡ 0) }
-{
-    Ok(vec![in alloc; 0; count]?)
 }
 
 // Counts down each entry of this call, and says whether one came to 0.
@@ -227,44 +253,4 @@ fn copy_out(bytes: &[u8], at: u64, buf: &mut [u8]) -> usize
     let count = buf.len().min(bytes.len() - from);
     buf[..count].copy_from_slice(&bytes[from..from + count]);
     count
-}
-
-// Writes within the room, with zeros between an earlier end and the place. It takes no memory if
-// the room is reserved.
-fn overwrite(bytes: &mut Vec<u8>, room: u64, at: u64, new: &[u8]) -> Result<(), NoRoom>
-    ensures written { OnOk result (Written at new.now bytes.old.items bytes.new.items) }
-    ensures failed { OnErr result (bytes.new.items ≡ bytes.old.items) }
-    ensures room { OnOk result (at + length new.now ≤ room) }
-    ensures reserved { at + length new.now ≤ room → room ≤ vec_capacity bytes.old → room < 2 ^ 64
-        → IsOk result }
-{
-    let Some(end) = at.checked_add(new.len() as u64) else {
-        return Err(NoRoom);
-    };
-    if end > room {
-        return Err(NoRoom);
-    }
-    grow(bytes, end as usize)?;
-    place(bytes, at as usize, new);
-    Ok(())
-}
-
-// Fills up with zeros to this length, if the bytes aren't longer.
-fn grow(bytes: &mut Vec<u8>, len: usize) -> Result<(), NoRoom>
-    ensures size { OnOk result (length bytes.new.items ≡ max (length bytes.old.items) len) }
-    ensures zeros { (x : ℕ) → slice_index bytes.new.items x ≡ slice_index bytes.old.items x }
-    ensures failed { OnErr result (bytes.new.items ≡ bytes.old.items) }
-    ensures reserved { len ≤ vec_capacity bytes.old → IsOk result }
-{
-    if bytes.len() < len && bytes.resize(len, 0).is_err() {
-        return Err(NoRoom);
-    }
-    Ok(())
-}
-
-fn place(bytes: &mut [u8], at: usize, new: &[u8])
-    requires { at + length new.now ≤ length bytes.old }
-    ensures { Written at new.now bytes.old bytes.new }
-{
-    bytes[at..at + new.len()].copy_from_slice(new);
 }

@@ -1,4 +1,5 @@
 use crate::RANGES_LEN;
+use crate::crash::CrashChoice;
 use crate::drive::{Drive, Part};
 use crate::failures::{CallKind, DriveCall, FailAt};
 use crate::file::FileDrive;
@@ -66,12 +67,43 @@ fn a_drive_fails_where_it_is_told_to(rt: HostRuntime) -> Result<(), Fail> {
     Ok(())
 }
 
+// "abcd" is synced. "XYZ" is written from its third byte on, and a write of "PQ" at its front fails.
+#[test]
+fn a_crash_leaves_what_it_may(rt: HostRuntime) -> Result<(), Fail> {
+    let fails = FailAt {
+        call: CallKind::Write,
+        part: Part::Bytes,
+        number: 3,
+    };
+    let cases: [(CrashChoice, &[u8], &[u8]); 4] = [
+        (CrashChoice::Old, b"abcd", b"\0\0"),
+        (CrashChoice::New, b"abXYZ", b"\x07\0"),
+        (CrashChoice::Half, b"PbXd", b"\0\0"),
+        (CrashChoice::Fill(b'.'), b".....", b".\0"),
+    ];
+    for (choice, bytes, ranges) in cases {
+        let mut drive = made(rt.alloc(), 16, 9, &[fails])?;
+        assert!(rt; drive.write_at(Part::Bytes, 0, b"abcd").is_ok());
+        assert!(rt; drive.write_at(Part::Ranges, 0, b"\x07").is_ok());
+        assert!(rt; drive.sync(Part::Bytes).is_ok());
+        assert!(rt; drive.write_at(Part::Bytes, 2, b"XYZ").is_ok());
+        assert!(rt; drive.write_at(Part::Bytes, 0, b"PQ").is_err());
+        let mut left = drive.crash(choice);
+        assert_eq!(rt; left.bytes(), bytes, "at {choice:?}");
+        let front = left.ranges_part().get(..2).unwrap_or(&[]);
+        assert_eq!(rt; front, ranges, "at {choice:?}");
+        assert_eq!(rt; left.count(), 0);
+        assert!(rt; left.sync(Part::Bytes).is_ok());
+    }
+    Ok(())
+}
+
 // A drive may be handed to a thread.
 #[test]
 fn two_threads_write_their_drives(rt: HostRuntime) -> Result<(), Fail> {
     let mut one = made(rt.alloc(), 4, 9, &[])?;
     let path = String::from_str(rt.alloc(), "threads.dat")?;
-    let mut two = FileDrive::at(rt.clone()?, path);
+    let mut two = FileDrive::at(rt.clone()?, path)?;
     let (first, second) = thread::join(
         &rt,
         || one.write_at(Part::Bytes, 0, b"one").is_ok(),
@@ -185,29 +217,47 @@ fn a_stream_is_read_and_written(rt: HostRuntime) -> Result<(), Fail> {
 #[test]
 fn a_file_is_a_drive(rt: HostRuntime) -> Result<(), Fail> {
     let path = String::from_str(rt.alloc(), "file.dat")?;
-    let mut drive = FileDrive::at(rt.clone()?, path);
+    let mut drive = FileDrive::at(rt.clone()?, path)?;
     assert!(rt; File::open(&rt, "file.dat").is_err());
     assert!(rt; drive.write_at(Part::Bytes, 3, b"xyz").is_ok());
     assert!(rt; drive.sync(Part::Bytes).is_ok());
     let mut buf = [9u8; 8];
     assert_eq!(rt; drive.read(Part::Bytes, 2, &mut buf), Ok(4));
-    assert_eq!(rt; &buf[..5], b"\0xyz\x09".as_slice());
+    assert_eq!(rt; buf, *b"\0xyz\x09\x09\x09\x09");
     assert!(rt; drive.cut(Part::Bytes, 9).is_ok());
     assert_eq!(rt; drive.len(Part::Bytes), Ok(6));
     assert!(rt; drive.cut(Part::Bytes, 4).is_ok());
     assert_eq!(rt; drive.len(Part::Bytes), Ok(4));
-    assert!(rt; drive.len(Part::Ranges).is_err());
     fs::remove_file(&rt, "file.dat")?;
     let absent = String::from_str(rt.alloc(), "absent/file.dat")?;
-    assert!(rt; FileDrive::at(rt.clone()?, absent).len(Part::Bytes).is_err());
+    assert!(rt;
+        FileDrive::at(rt.clone()?, absent)?
+            .len(Part::Bytes)
+            .is_err()
+    );
     // A folder that can't be synced: the file opens, and each call fails, not the first alone.
     let unsynced = "/proc/self/comm";
     let opened = File::options().read(true).write(true).open(&rt, unsynced);
     assert!(rt; opened.is_ok());
     let path = String::from_str(rt.alloc(), unsynced)?;
-    let mut drive = FileDrive::at(rt.clone()?, path);
+    let mut drive = FileDrive::at(rt.clone()?, path)?;
     for _ in 0..2 {
         assert!(rt; drive.len(Part::Bytes).is_err());
     }
+    Ok(())
+}
+
+#[test]
+fn the_second_file_is_made_whole(rt: HostRuntime) -> Result<(), Fail> {
+    let path = String::from_str(rt.alloc(), "two.dat")?;
+    let mut drive = FileDrive::at(rt.clone()?, path)?;
+    assert!(rt; File::open(&rt, "two.dat.gfr").is_err());
+    assert_eq!(rt; drive.len(Part::Ranges), Ok(RANGES_LEN));
+    assert!(rt; File::open(&rt, ".two.dat.new.gfr").is_err());
+    assert!(rt; drive.write_at(Part::Ranges, 64, b"\x01").is_ok());
+    let mut buf = [9u8; 4];
+    assert_eq!(rt; drive.read(Part::Ranges, 63, &mut buf), Ok(4));
+    assert_eq!(rt; buf, *b"\0\x01\0\0");
+    fs::remove_file(&rt, "two.dat.gfr")?;
     Ok(())
 }

@@ -3,7 +3,7 @@ use Rattle.std.proofs.Common.{◌≡◌, ℕ, ◌+◌, ◌<◌, List, length, ar
 use Rattle.gft_range.specs.declared.Range.{Range}
 use Rattle.gft_range.specs.Words.{InRange, HasOffset, IsNormal, IsUnion}
 use Rattle.gft_range.proofs.Lemmas.{one_list, union_of}
-use Rattle.gft_keep.specs.declared.TheConstants.{MAX_RANGES}
+use Rattle.gft_drive.specs.declared.TheConstants.{MAX_RANGES}
 use Rattle.gft_keep.specs.Store.{IsFull}
 
 -- a block that is kept already needs no range

@@ -1,7 +1,7 @@
 -- What the calls of a keep but `store` do to it.
 use Rattle.std.specs.Prelude.{◌≡◌, ℕ, List, [], length, take, true}
 use Rattle.gft_base.specs.Words.{Rose}
-use Rattle.gft_drive.specs.Words.{CutTo, DriveState, Goes, Looks, Reads, Same}
+use Rattle.gft_drive.specs.Words.{CutTo, DriveState, Goes, Reads, Same, Unchanged}
 use Rattle.gft_drive.specs.declared.Part.TheVariants.{Bytes}
 use Rattle.gft_keep.specs.Holds.{Holds}
 use Rattle.gft_keep.specs.State.{IsWhole, KeepState}
@@ -23,7 +23,7 @@ pub record NotAttached (old new : DriveState) : Type 0 where
 pub record OnlyLooks (old new : KeepState) : Type 0 where
   pub whole : IsWhole new
   pub ranges : new.ranges ≡ old.ranges
-  pub drive : Looks old.drive new.drive
+  pub drive : Unchanged old.drive new.drive
 
 -- nothing is kept, and the file has no byte
 pub record Emptied (old new : KeepState) : Type 0 where

@@ -7,7 +7,7 @@ use Rattle.gft_range.specs.declared.Range.{Range}
 use Rattle.gft_range.specs.Words.{HasOffset, IsNormal, IsUnion, IsMissing}
 use Rattle.gft_drive.specs.Words.{Reads}
 use Rattle.gft_drive.specs.declared.Part.TheVariants.{Bytes}
-use Rattle.gft_keep.specs.declared.TheConstants.{MAX_RANGES}
+use Rattle.gft_drive.specs.declared.TheConstants.{MAX_RANGES}
 use Rattle.gft_keep.specs.declared.error.KeepError.{KeepError}
 use Rattle.gft_keep.specs.declared.error.KeepError.TheVariants.{RangesFull, Failed}
 use Rattle.gft_keep.specs.Holds.{Holds}

@@ -11,11 +11,10 @@ ghost use Rattle.gft_keep.specs.State.{IsWhole};
 ghost use Rattle.gft_keep.specs.Store.{HasKeepCause, Refused, Stored, UnlessFailed};
 ghost use Rattle.gft_keep.specs.Store.{IsBlock, IsFull, block_of};
 
-use crate::MAX_RANGES;
 use crate::error::{AttachError, KeepError};
 use crate::writing::write_missing;
 use gft_base::{Failed, LIMIT};
-use gft_drive::{Drive, Part};
+use gft_drive::{Drive, MAX_RANGES, Part};
 use gft_range::{Range, RangeSet};
 use std::alloc::Global;
 

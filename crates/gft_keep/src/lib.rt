@@ -10,9 +10,3 @@ mod writing;
 
 pub use error::{AttachError, KeepError};
 pub use keep::Keep;
-
-/// The most ranges that a file keeps.
-pub const MAX_RANGES: usize = 16_384;
-
-// The definitions of all crates cite the name: its number is pinned here.
-const _: () = prove!(MAX_RANGES == 16_384);

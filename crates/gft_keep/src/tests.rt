@@ -2,7 +2,7 @@ ghost use Rattle.std.specs.Prelude.{◌≡◌, [], IfOk, false};
 
 use super::*;
 use gft_base::Failed;
-use gft_drive::{CallKind, Drive, DriveCall, FailAt, MemoryDrive, Part};
+use gft_drive::{CallKind, Drive, DriveCall, FailAt, MAX_RANGES, MemoryDrive, Part};
 use gft_range::{Range, RangeSet};
 use std::alloc::Global;
 use std::process::Abort;

@@ -10,7 +10,7 @@ use Rattle.gft_range.specs.Words.{InRange, HasOffset}
 use Rattle.gft_eblock.specs.declared.TheConstants.{MAX_BYTES}
 use Rattle.gft_eod.specs.declared.EodError.{EodError}
 use Rattle.gft_eod.specs.Words.{Count, eof_refusal, eod_refusal}
-use Rattle.gft_keep.specs.declared.TheConstants.{MAX_RANGES}
+use Rattle.gft_drive.specs.declared.TheConstants.{MAX_RANGES}
 use Rattle.gft_keep.specs.Words.{IsFull, block_of}
 use Rattle.gridftpd.specs.Events.{events_of}
 use Rattle.gridftpd.specs.Totals.{first_of}

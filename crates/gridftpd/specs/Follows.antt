@@ -1,17 +1,27 @@
 -- How an intake stands to the bytes that it took.
-use Rattle.std.specs.Prelude.{◌≡◌, ℕ, ◌<◌, ◌↔◌, Some, List, [], ◌∷◌, ◌++◌, length, take, slice_index}
+use Rattle.std.specs.Prelude.{◌≡◌, ℕ, ◌<◌, ◌↔◌, Option, Some, List, [], ◌∷◌, ◌++◌, length, take, slice_index}
 use Rattle.gft_eblock.specs.Words.{Arrival, At, Eof, Eod, Bad, Arrives, totals, eods, arrivals, IsUnfinished}
 use Rattle.gft_eblock.specs.Words.{to_come}
 use Rattle.gft_core.specs.Words.{kept}
 use Rattle.gft_range.specs.declared.Range.{Range}
 use Rattle.gft_range.specs.Words.{HasOffset}
-use Rattle.gft_drive.specs.Words.{DriveState, Goes, Reads}
+use Rattle.gft_drive.specs.Words.{DriveState, Goes, Image, Reads}
 use Rattle.gft_drive.specs.declared.Part.TheVariants.{Bytes}
 use Rattle.gft_keep.specs.Words.{Holds, IsWhole, keep_of}
 use Rattle.gft_eod.specs.Words.{Count}
 use Rattle.gridftpd.specs.Events.{events_of}
 use Rattle.gridftpd.specs.Totals.{first_of, AllAre}
 use Rattle.gridftpd.specs.declared.intake.Intake.{Intake}
+
+-- a drive's state with this label and these contents: a clause that holds of every start names it by these two,
+-- since a whole state is too large to be said of all
+abbrev pub start_of : List ℕ → Option Image → DriveState
+start_of label contents =
+    record { label = label; contents = contents; moment = 0; left_since = λ t image. Unit {0}; faults = 0 }
+
+-- where a drive starts from
+abbrev pub seen : DriveState → DriveState
+seen drive = start_of drive.label drive.contents
 
 -- at each offset of the set the file has the kept byte
 abbrev pub HasKeptIn : List Arrival → List Range → List ℕ → List ℕ → Type 0

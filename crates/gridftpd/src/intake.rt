@@ -2,7 +2,7 @@ ghost use Rattle.std.specs.Prelude.{◌≡◌, ℕ, ◌+◌, ◌<◌, ◌≤◌,
 ghost use Rattle.std.specs.Prelude.{IsTrue, IfErr, IfOk, MatchResult, ◌⊎◌, if◌then◌else◌, false, None};
 ghost use Rattle.std.specs.Prelude.{Option};
 ghost use Rattle.std.specs.Io.KnownBytes.{IsAtEnd};
-ghost use Rattle.gft_drive.specs.Words.{DriveState, Goes};
+ghost use Rattle.gft_drive.specs.Words.{Goes, Image};
 ghost use Rattle.gft_eblock.specs.Words.{wanted, IsDone};
 ghost use Rattle.gft_keep.specs.Words.{drive_of, Holds, IsWhole, keep_of};
 ghost use Rattle.gridftpd.specs.Cause.{IsCause};
@@ -27,13 +27,13 @@ pub(crate) struct Intake<D: Drive + Drop> {
 }
 
 impl<D: Drive + Drop> Intake<D> {
-    ghost use Rattle.gridftpd.specs.Follows.{Follows};
+    ghost use Rattle.gridftpd.specs.Follows.{Follows, seen, start_of};
 
     /// An intake before its first byte.
     pub(crate) fn new(keep: Keep<D>) -> Self
         requires whole { IsWhole (keep_of D.state keep) }
         requires empty { (keep_of D.state keep).ranges ≡ [] }
-        ensures follows { Follows D.state (keep_of D.state keep).drive 0 [] result }
+        ensures follows { Follows D.state (seen (keep_of D.state keep).drive) 0 [] result }
         ensures not_done { ¬ IsDone result.channel }
         ensures keep { result.keep ≡ keep }
     {
@@ -54,7 +54,7 @@ impl<D: Drive + Drop> Intake<D> {
     /// Takes one recorded data connection up to its EOD or the end of the input.
     pub(crate) fn run<I: Source>(&mut self, input: &mut I, buf: &mut [u8]) -> Outcome
         requires room { 0 < length buf.old }
-        requires follows { Follows D.state (keep_of D.state self.old.keep).drive 0 [] self.old }
+        requires follows { Follows D.state (seen (keep_of D.state self.old.keep).drive) 0 [] self.old }
         requires not_done { ¬ IsDone self.old.channel }
         ensures caused { (stream : List ℕ) × IsTaken (I.left input.old) (I.left input.new) stream
             × IsCause result stream (I.left input.new)
@@ -92,13 +92,14 @@ impl<D: Drive + Drop> Intake<D> {
         requires wanted { length piece.now ≤ wanted self.old.channel }
         requires whole { IsWhole (keep_of D.state self.old.keep) }
         requires holds { Holds (keep_of D.state self.old.keep).ranges (keep_of D.state self.old.keep).drive }
-        ensures follows { IfOk result (λ ended. (start : DriveState) (stream : List ℕ)
-            → Follows D.state start 0 stream self.old
-            → Follows D.state start (if ended then 1 else 0) (stream ++ piece.now) self.new) }
+        ensures follows { IfOk result (λ ended. (label : List ℕ) (contents : Option Image) (stream : List ℕ)
+            → Follows D.state (start_of label contents) 0 stream self.old
+            → Follows D.state (start_of label contents) (if ended then 1 else 0)
+                (stream ++ piece.now) self.new) }
         ensures ended { IfOk result (λ ended. IsTrue ended ↔ IsDone self.new.channel) }
         ensures waiting { IfOk result (λ ended. wanted self.old.channel ≡ 0 → IsTrue ended) }
-        ensures caused { IfErr result (λ outcome. (start : DriveState) (stream : List ℕ)
-            (left : Option (List ℕ)) → Follows D.state start 0 stream self.old
+        ensures caused { IfErr result (λ outcome. (label : List ℕ) (contents : Option Image) (stream : List ℕ)
+            (left : Option (List ℕ)) → Follows D.state (start_of label contents) 0 stream self.old
             → IsCause outcome (stream ++ piece.now) left) }
         ensures which { IfErr result IsTurnsOutcome }
         ensures drive { let before = (keep_of D.state self.old.keep).drive.faults in
@@ -134,8 +135,8 @@ impl<D: Drive + Drop> Intake<D> {
     /// The outcome where the input ended before the EOD.
     fn lost(&self) -> Outcome
         requires awaits { 0 < wanted self.now.channel }
-        ensures caused { (start : DriveState) (stream : List ℕ) (left : Option (List ℕ))
-            → Follows D.state start 0 stream self.now → IsAtEnd left
+        ensures caused { (label : List ℕ) (contents : Option Image) (stream : List ℕ) (left : Option (List ℕ))
+            → Follows D.state (start_of label contents) 0 stream self.now → IsAtEnd left
             → IsCause result stream left }
         ensures which { (result ≡ Outcome.Hole None 0 None) ⊎ (result ≡ Outcome.Lost self.now.channel.taken) }
     {
@@ -154,12 +155,13 @@ impl<D: Drive + Drop> Intake<D> {
     fn finish(&mut self) -> Outcome
         requires whole { IsWhole (keep_of D.state self.old.keep) }
         requires holds { Holds (keep_of D.state self.old.keep).ranges (keep_of D.state self.old.keep).drive }
-        ensures caused { (start : DriveState) (stream : List ℕ) (left : Option (List ℕ))
-            → Follows D.state start 1 stream self.old → IsDone self.old.channel
+        ensures caused { (label : List ℕ) (contents : Option Image) (stream : List ℕ) (left : Option (List ℕ))
+            → Follows D.state (start_of label contents) 1 stream self.old → IsDone self.old.channel
             → IsCause result stream left }
-        ensures complete { (start : DriveState) (stream : List ℕ)
-            → Follows D.state start 1 stream self.old → IsDone self.old.channel → result ≡ Outcome.Complete
-            → IsStored stream start (keep_of D.state self.new.keep).drive }
+        ensures complete { (label : List ℕ) (contents : Option Image) (stream : List ℕ)
+            → Follows D.state (start_of label contents) 1 stream self.old → IsDone self.old.channel
+            → result ≡ Outcome.Complete
+            → IsStored stream (start_of label contents) (keep_of D.state self.new.keep).drive }
         ensures which { IsEndsOutcome result }
         ensures drive { DriveIsBlamed result (keep_of D.state self.old.keep).drive.faults
             (keep_of D.state self.new.keep).drive.faults }

@@ -17,7 +17,8 @@ mod words;
 
 use crate::draining::{drain, tell};
 use crate::outcome::Outcome;
-use gft_drive::{FileDrive, ReadSource, Unknown, WriteSink};
+use gft_drive::{FileDrive, ReadSource, Sink, Unknown, WriteSink};
+use std::alloc::Global;
 use std::io::ErrorKind;
 use std::process::ExitCode;
 use std::rt::Env;
@@ -29,14 +30,13 @@ fn main(rt: HostRuntime) -> ExitCode {
     let mut out = WriteSink::new(rt.stdout());
     let (words, path) = match words_and_path(&rt) {
         Ok(both) => both,
-        Err(error) if error.kind() == ErrorKind::OutOfMemory => {
-            let status = tell(alloc, &mut out, &Outcome::OutOfMemory);
-            return ExitCode::from(status.number());
-        }
+        Err(error) if error.kind() == ErrorKind::OutOfMemory => return refuse(alloc, &mut out),
         // A word that isn't UTF-8 is none of `drain`'s.
         Err(_) => (Vec::new(alloc), String::new(alloc)),
     };
-    let drive = FileDrive::at(rt, path);
+    let Ok(drive) = FileDrive::at(rt, path) else {
+        return refuse(alloc, &mut out);
+    };
     let (status, _drive) = drain::<_, _, _, Unknown>(
         alloc,
         words.as_slice(),
@@ -45,6 +45,13 @@ fn main(rt: HostRuntime) -> ExitCode {
         drive,
     );
     ExitCode::from(status)
+}
+
+/// Tells that memory was refused before the drive was made.
+fn refuse<W: Sink>(alloc: Global, out: &mut W) -> ExitCode
+    requires { W.is_open out.old }
+{
+    ExitCode::from(tell(alloc, out, &Outcome::OutOfMemory).number())
 }
 
 /// The words behind the program's name, and the last of them, which names the file; no file is

@@ -61,8 +61,8 @@ loop-gap-preserved g c =
       left = left_after set c.args.block c.loop-gap.gap-iterator c.in-Some.gap c.next.new.self kept.left first;
       writing = Reads-then Bytes (Writing set c.args.block c.args.bytes.now c.loop-gap.gap-iterator) (Written c.in-Some.gap.start _) (Writing set c.args.block c.args.bytes.now c.next.new.self) (g.D.Drive.state c.args.drive.now) (g.D.Drive.state c.loop-gap.drive) (g.D.Drive.state c.write_at.new.self) kept.writing c.in_ok-write_at.ensures.written
           (writing_more set c.args.block c.args.bytes.now c.loop-gap.gap-iterator c.in-Some.gap c.next.new.self _ kept.left first c.requires.block refl);
-      goes = Goes-then (g.D.Drive.state c.args.drive.now) (g.D.Drive.state c.loop-gap.drive) (g.D.Drive.state c.write_at.new.self) kept.goes c.write_at.ensures.goes;
-      faults = c.in_ok-write_at.ensures.cause.kept ∙ kept.faults;
+      goes = Goes-then (g.D.Drive.state c.args.drive.now) (g.D.Drive.state c.loop-gap.drive) (g.D.Drive.state c.write_at.new.self) kept.goes c.write_at.ensures.only.time.goes;
+      faults = c.in_ok-write_at.ensures.only.cause.kept ∙ kept.faults;
       bounded = omega (arith, kept.bounded, counts);
       counted = λ missing is. omega (arith, kept.counted missing is, counts);
     }
@@ -72,13 +72,11 @@ returns-clause-stored g c =
     let set = c.args.set.now.ranges in
     let kept = c.loop-gap.invariant in
     λ from told.
-    let here = kept.writing from told in
-    let there = c.in_ok-sync.ensures.read here.0 here.1 in (
-      there.0,
-      there.1,
+    let here = kept.writing from told in (
+      here.0,
+      c.in_ok-sync.ensures.read ∙ here.1,
       record {
-        changed = subst (λ (file : List ℕ). Stores set c.args.block c.args.bytes.now from.bytes file) (sym there.2.changed)
-            (stores_all set c.args.block c.args.bytes.now _ (c.in-None.ensures.steps).0 from.bytes here.0.bytes (c.requires.holds from told) here.2.changed);
-        kept = there.2.kept ∙ here.2.kept;
+        changed = stores_all set c.args.block c.args.bytes.now _ (c.in-None.ensures.steps).0 from.bytes here.0.bytes (c.requires.holds from told) here.2.changed;
+        kept = here.2.kept;
       },
     )

@@ -15,7 +15,7 @@ returns-in-Err-clause-goes g c =
     subst (λ (new : DriveState). Goes (state c.args.drive) new) (ap state (sym c.into_drive.ensures)) (Goes-then (state c.args.drive) attached emptied c.in-Ok-attach.ensures.ok.goes c.fresh.ensures.goes)
 
 pub new-intake-requires-clause-whole : goal.new-intake-requires-clause-whole
-new-intake-requires-clause-whole g c = c.in_default-fresh.ensures.emptied.whole
+new-intake-requires-clause-whole g c = λ κs below. c.in_default-fresh.ensures.emptied.whole
 
 pub returns-clause-caused : goal.returns-clause-caused
 returns-clause-caused g c =

@@ -2,7 +2,7 @@ use Rattle.std.proofs.Common.{ℕ, [], List, refl, sym, subst, arith}
 use Rattle.gft_keep.specs.Words.{keep_of}
 use Rattle.gft_range.specs.declared.Range.{Range}
 use Rattle.gft_range.specs.Words.{HasOffset}
-use Rattle.gft_drive.proofs.Lemmas.{Goes-refl, Reads-same}
+use Rattle.gft_drive.proofs.Lemmas.{Reads-same}
 use Rattle.gft_drive.specs.declared.Part.TheVariants.{Bytes}
 use Rattle.gridftpd.specs.Follows.{HasKeptIn}
 use Rattle.gridftpd.proofs.intake.Intake.new.Goals as goal
@@ -16,7 +16,7 @@ returns-clause-follows g c =
       offsets = λ x. (none x, λ came. absurd came);
       kept = Reads-same Bytes (HasKeptIn [] (keep_of g.D.Drive.state c.args.keep).ranges) (keep_of g.D.Drive.state c.args.keep).drive (λ xs x had. absurd (none x had));
       holds = λ image told x had. absurd (none x had);
-      goes = Goes-refl (keep_of g.D.Drive.state c.args.keep).drive;
+      goes = record { label = refl; tells = (λ some. some, λ some. some) };
       whole = c.requires.whole;
       counted = record { total = c.new-2.ensures.total; eods = c.new-2.ensures.eods; agreed = λ total first. tt };
       sound = tt;

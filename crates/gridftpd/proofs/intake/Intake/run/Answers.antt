@@ -2,7 +2,7 @@ use Rattle.std.proofs.Common.{◌≡◌, ◌<◌, ◌≤◌, ◌++◌, [], Bool,
 use Rattle.std.proofs.lemmas.List.{length-take-le}
 use Rattle.gft_eblock.specs.Words.{wanted}
 use Rattle.gft_keep.specs.Words.{keep_of}
-use Rattle.gridftpd.specs.Follows.{Follows}
+use Rattle.gridftpd.specs.Follows.{Follows, seen}
 use Rattle.gridftpd.specs.Drain.{IsStored}
 use Rattle.gridftpd.specs.Turn.{IsTurnsOutcome}
 use Rattle.gridftpd.specs.declared.outcome.Outcome.{Outcome}
@@ -14,20 +14,20 @@ use Rattle.gridftpd.proofs.intake.Intake.run.Goals.{else-count-eq0-via-then-coun
 pub returns-then-wants-gt0-clause-caused : goal.returns-then-wants-gt0-clause-caused
 returns-then-wants-gt0-clause-caused g c =
     let kept = c.reads.invariant in
-    let start = (keep_of g.D.Drive.state c.args.self.now.keep).drive in
+    let start = seen (keep_of g.D.Drive.state c.args.self.now.keep).drive in
     let none : take c.in-Ok.count c.read_next.new.buf ≡ [] = ap (λ n. take n c.read_next.new.buf) c.if-count-eq0.true in
     let ended = c.in-Ok.ensures.at_end c.if-count-eq0.true (omega (arith, c.if-wants-gt0.true, c.min.ensures, kept.room, c.taken-room.ensures.taken)) in
     let stored = IsStored kept.stream start (keep_of g.D.Drive.state c.reads.self.keep).drive in (
       kept.stream,
       record { consumed = Consumes-nothing _ _ _ kept.stream (take c.in-Ok.count c.read_next.new.buf) none kept.consumed c.in-Ok.ensures.consumed; in_time = kept.follows.in_time },
-      c.lost.ensures.caused start kept.stream (g.I.Source.left c.read_next.new.input) kept.follows ended,
+      c.lost.ensures.caused start.label start.contents kept.stream (g.I.Source.left c.read_next.new.input) kept.follows ended,
       λ same. elim c.lost.ensures.which [ inl hole ↦ absurd {A = stored} (cc) | inr lost ↦ absurd {A = stored} (cc) ],
     )
 
 pub returns-then-count-room-clause-caused : goal.returns-then-count-room-clause-caused
 returns-then-count-room-clause-caused g c =
     let kept = c.reads.invariant in
-    let start = (keep_of g.D.Drive.state c.args.self.now.keep).drive in
+    let start = seen (keep_of g.D.Drive.state c.args.self.now.keep).drive in
     let n = c.in-Ok.count in
     let wants : c.in-Ok.count ≤ wanted c.reads.self.channel = omega (arith, c.in-Ok.ensures.count.1, c.min.ensures, c.wants-wants.ensures.wanted) in
     let len : length (take n c.read_next.new.buf) ≡ n = length-take-le n c.read_next.new.buf c.in-Ok.ensures.count.0 in (
@@ -38,35 +38,35 @@ returns-then-count-room-clause-caused g c =
     )
 
 pub finish-requires-clause-whole : goal.finish-requires-clause-whole
-finish-requires-clause-whole g c = (c.in-Ok-true.ensures.follows (keep_of g.D.Drive.state c.args.self.now.keep).drive c.reads.invariant.stream c.reads.invariant.follows).whole
+finish-requires-clause-whole g c = λ κs below. (c.in-Ok-true.ensures.follows (keep_of g.D.Drive.state c.args.self.now.keep).drive.label (keep_of g.D.Drive.state c.args.self.now.keep).drive.contents c.reads.invariant.stream c.reads.invariant.follows).whole
 
 pub finish-requires-clause-holds : goal.finish-requires-clause-holds
-finish-requires-clause-holds g c = (c.in-Ok-true.ensures.follows (keep_of g.D.Drive.state c.args.self.now.keep).drive c.reads.invariant.stream c.reads.invariant.follows).holds
+finish-requires-clause-holds g c = λ κs below. (c.in-Ok-true.ensures.follows (keep_of g.D.Drive.state c.args.self.now.keep).drive.label (keep_of g.D.Drive.state c.args.self.now.keep).drive.contents c.reads.invariant.stream c.reads.invariant.follows).holds
 
 pub returns-in-Ok-true-clause-caused : goal.returns-in-Ok-true-clause-caused
 returns-in-Ok-true-clause-caused g c =
     let kept = c.reads.invariant in
-    let start = (keep_of g.D.Drive.state c.args.self.now.keep).drive in
+    let start = seen (keep_of g.D.Drive.state c.args.self.now.keep).drive in
     let stream = kept.stream ++ take c.in-Ok.count c.read_next.new.buf in
     let wants : c.in-Ok.count ≤ wanted c.reads.self.channel = omega (arith, c.in-Ok.ensures.count.1, c.min.ensures, c.wants-wants.ensures.wanted) in
     let ended = c.in-Ok-true.field-0-test in
     let done = c.in-Ok-true.ensures.ended.0 ended in
-    let follows = subst (λ (b : Bool). Follows g.D.Drive.state start (cond b 1 0) stream c.turn.new.self) ended (c.in-Ok-true.ensures.follows start kept.stream kept.follows) in (
+    let follows = subst (λ (b : Bool). Follows g.D.Drive.state start (cond b 1 0) stream c.turn.new.self) ended (c.in-Ok-true.ensures.follows start.label start.contents kept.stream kept.follows) in (
       stream,
       taken_more g.D.Drive.state start kept.stream c.reads.self _ _ _ c.read_next.new.buf c.in-Ok.count kept.follows kept.consumed c.in-Ok.ensures.consumed c.in-Ok.ensures.count.0 wants,
-      c.finish.ensures.caused start stream (g.I.Source.left c.read_next.new.input) follows done,
-      λ same. c.finish.ensures.complete start stream follows done same,
+      c.finish.ensures.caused start.label start.contents stream (g.I.Source.left c.read_next.new.input) follows done,
+      λ same. c.finish.ensures.complete start.label start.contents stream follows done same,
     )
 
 pub returns-in-Err-clause-caused : goal.returns-in-Err-clause-caused
 returns-in-Err-clause-caused g c =
     let kept = c.reads.invariant in
-    let start = (keep_of g.D.Drive.state c.args.self.now.keep).drive in
+    let start = seen (keep_of g.D.Drive.state c.args.self.now.keep).drive in
     let stream = kept.stream ++ take c.in-Ok.count c.read_next.new.buf in
     let wants : c.in-Ok.count ≤ wanted c.reads.self.channel = omega (arith, c.in-Ok.ensures.count.1, c.min.ensures, c.wants-wants.ensures.wanted) in (
       stream,
       taken_more g.D.Drive.state start kept.stream c.reads.self _ _ _ c.read_next.new.buf c.in-Ok.count kept.follows kept.consumed c.in-Ok.ensures.consumed c.in-Ok.ensures.count.0 wants,
-      c.in-Err.ensures.caused start kept.stream (g.I.Source.left c.read_next.new.input) kept.follows,
+      c.in-Err.ensures.caused start.label start.contents kept.stream (g.I.Source.left c.read_next.new.input) kept.follows,
       λ same. absurd {A = IsStored stream start (keep_of g.D.Drive.state c.turn.new.self.keep).drive} (subst (λ (outcome : Outcome). IsTurnsOutcome outcome) same c.in-Err.ensures.which),
     )
 
@@ -75,7 +75,7 @@ reads-smaller g c =
     let kept = c.reads.invariant in
     let piece = take c.in-Ok.count c.read_next.new.buf in
     let len : length piece ≡ c.in-Ok.count = length-take-le c.in-Ok.count c.read_next.new.buf c.in-Ok.ensures.count.0 in
-    let grown = c.in-Ok-false.ensures.follows (keep_of g.D.Drive.state c.args.self.now.keep).drive kept.stream kept.follows in
+    let grown = c.in-Ok-false.ensures.follows (keep_of g.D.Drive.state c.args.self.now.keep).drive.label (keep_of g.D.Drive.state c.args.self.now.keep).drive.contents kept.stream kept.follows in
     let some : 0 < c.in-Ok.count = elim c.else-count-eq0.branch [
       | else-count-eq0-via-then-count-eq0+else-wants-gt0 w ↦
           let none : wanted c.reads.self.channel ≡ 0 = omega (arith, w.if-wants-gt0.false, c.wants-wants.ensures.wanted) in
@@ -87,11 +87,11 @@ reads-smaller g c =
 pub reads-preserved : goal.reads-preserved
 reads-preserved g c =
     let kept = c.reads.invariant in
-    let start = (keep_of g.D.Drive.state c.args.self.now.keep).drive in
+    let start = seen (keep_of g.D.Drive.state c.args.self.now.keep).drive in
     let piece = take c.in-Ok.count c.read_next.new.buf in
     let more = c.in-Ok-false.field-0-test in
     let len : length piece ≡ c.in-Ok.count = length-take-le c.in-Ok.count c.read_next.new.buf c.in-Ok.ensures.count.0 in
-    let grown = c.in-Ok-false.ensures.follows start kept.stream kept.follows in
+    let grown = c.in-Ok-false.ensures.follows start.label start.contents kept.stream kept.follows in
     record {
       stream = kept.stream ++ piece;
       consumed = Consumes-append _ _ _ kept.stream piece kept.consumed c.in-Ok.ensures.consumed;

@@ -1,0 +1,10 @@
+mod Adding
+mod Attaching
+mod Basing
+mod Births
+mod Encoding
+mod OpenSlots
+mod Scanning
+mod Sets
+mod Units
+mod Writing
