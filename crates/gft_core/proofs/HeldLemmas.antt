@@ -1,8 +1,8 @@
 -- The ranges of an image as a function are those of its part.
-use Rattle.std.proofs.Common.{◌≡◌, ◌⊎◌, ◌↔◌, ℕ, zero, suc, ◌+◌, ◌*◌, ◌==◌, ap, get_or, List, Bool, true, false, true≢false, sym, ⊎_elim, subst, eq-eqb, arith}
-use Rattle.std.specs.Prelude.{◌&&◌, ◌||◌, nat_le, nat_lt, slice_get}
+use Rattle.std.proofs.Common.{◌≡◌, ◌⊎◌, ◌↔◌, ℕ, zero, suc, ◌+◌, ◌*◌, ◌%◌, ◌==◌, ◌<◌, ap, get_or, List, Bool, true, false, true≢false, sym, inl, inr, ⊎_elim, subst, eq-eqb, arith}
+use Rattle.std.specs.Prelude.{◌&&◌, ◌||◌, nat_le, nat_lt, slice_get, slice_index}
 use Rattle.std.proofs.lemmas.Bool.{and_from, and_parts, cases_eq, eqb-true, le-leb, leb-true, lt-ltb, ltb-true, or_cases, or_left, or_right}
-use Rattle.gft_drive.specs.Words.{Covers, Has, Image, IsOpenAs, Names, Slot, layout_at, number_at, range_kind, selected, slot}
+use Rattle.gft_drive.specs.Words.{Covers, Has, Image, IsOpenAs, Names, Slot, bank_at, first_layout, layout_at, number_at, range_kind, selected, slot, slot_at}
 use Rattle.gft_core.specs.Held.{bank_names, covers, held, slot_names}
 use Rattle.gft_core.specs.Laws.{HeldLaw}
 use Rattle.gft_core.proofs.OptionLemmas.{if_true, if_value, if_holds}
@@ -35,6 +35,19 @@ bank_names-is bank (suc n) x =
           (cases_eq named.0 n),
     )
 
+-- a reader takes one slot more
+pub names_next : (bank : ℕ → Slot) (n x : ℕ) (now old inside : Type 0) → (now ↔ (old ⊎ inside)) → (old ↔ Names bank n x) → (inside ↔ (IsOpenAs range_kind (bank n) × Has (bank n) x)) → now ↔ Names bank (n + 1) x
+names_next bank n x now old inside more before here = (
+  λ h. ⊎_elim
+      (λ o. let named = before.0 o in (named.0, omega (arith, named.1), named.2, named.3))
+      (λ i. let is = here.0 i in (n, omega arith, is.0, is.1))
+      (more.0 h),
+  λ named. more.1 (⊎_elim
+      (λ last. inr (here.1 (subst (λ (k : ℕ). IsOpenAs range_kind (bank k) × Has (bank k) x) last (named.2, named.3))))
+      (λ ne. inl (before.1 (named.0, omega (arith, named.1, ne), named.2, named.3)))
+      (cases_eq named.0 n)),
+)
+
 pub covers-is : (xs : List ℕ) (x : ℕ) → (covers xs x ≡ true) ↔ Covers xs x
 covers-is xs x = bank_names-is (slot xs (selected xs)) (layout_at xs (selected xs)).count x
 
@@ -52,3 +65,6 @@ six bytes at =
     let none : at + 0 ≡ at = omega arith in
     let first : get_or bytes (at + 0) 0 ≡ get_or bytes at 0 = ap (λ (k : ℕ). get_or bytes k 0) none in
     omega (arith, first)
+
+pub slot_place : (xs : List ℕ) (selector i : ℕ) → selector ≡ slice_index xs 0 → 64 + 1048576 * (selector % 2) + 32 + 16 * i ≡ slot_at first_layout (bank_at (selected xs)) i
+slot_place xs selector i is = ap (λ (n : ℕ). 64 + 1048576 * (n % 2) + 32 + 16 * i) is

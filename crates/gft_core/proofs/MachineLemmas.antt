@@ -1,7 +1,7 @@
 -- What one event more does to the machine, and when the machine is done.
-use Rattle.std.proofs.Common.{◌≡◌, ◌⊎◌, ℕ, ◌+◌, ◌-◌, ◌<◌, ◌≤◌, ◌↔◌, List, [], ◌∷◌, ◌++◌, length, Ok, Err, Some, None, Bool, true, false, true≢false, refl, sym, ap, ◌∙◌, inl, inr, ⊎_elim, is_err, arith}
-use Rattle.std.specs.Prelude.{Option, Result, IsTrue, OnOk, IfErr, ◌&&◌, ◌||◌, nat_le, nat_lt, if◌then◌else◌}
-use Rattle.std.proofs.lemmas.Bool.{and_from, and_parts, false_from_ne_true, le-leb, leb-true, lt-ltb, ltb-true, or_cases, or_left, or_right}
+use Rattle.std.proofs.Common.{◌≡◌, ◌⊎◌, ℕ, ◌+◌, ◌-◌, ◌<◌, ◌≤◌, ◌↔◌, List, [], ◌∷◌, ◌++◌, length, Ok, Err, Some, None, Bool, true, false, true≢false, refl, sym, ap, ◌∙◌, subst, inl, inr, ⊎_elim, is_err, arith}
+use Rattle.std.specs.Prelude.{Option, Result, IsTrue, OnOk, IfOk, IfErr, ◌&&◌, ◌||◌, nat_le, nat_lt, if◌then◌else◌}
+use Rattle.std.proofs.lemmas.Bool.{and_from, and_parts, both_ways, cases_Bool, false_from_ne_true, le-leb, leb-true, lt-ltb, ltb-true, or_cases, or_left, or_right}
 use Rattle.std.proofs.lemmas.Option.{none-some}
 use Rattle.gft_range.specs.declared.Range.{Range}
 use Rattle.gft_range.specs.Words.{InRange, HasOffset, KeptRanges}
@@ -16,7 +16,7 @@ use Rattle.gft_core.specs.Kept.{first_some, byte_at, answered, carried, earliest
 use Rattle.gft_core.specs.Done.{Done}
 use Rattle.gft_core.specs.declared.progress.Progress.{Progress}
 use Rattle.gft_core.specs.declared.progress.Progress.TheVariants.{Idle}
-use Rattle.gft_core.specs.Machine.{State, Stands, found_after, found_in, has_begun, has_offset, left_of}
+use Rattle.gft_core.specs.Machine.{BringsNoByte, State, Stands, found_after, found_in, has_begun, has_offset, left_of}
 use Rattle.gft_core.specs.Progress.{IsSoundProgress, HasMet, Tells}
 use Rattle.gft_core.proofs.OptionLemmas.{first_some-none, first_some_back, first_some_either, first_some_front, has-first_some_none}
 use Rattle.gft_core.proofs.HeldLemmas.{covers-is}
@@ -26,6 +26,10 @@ use Rattle.gft_core.proofs.ProgressLemmas.{done_where_met, Tells-block}
 pub on_ok : {A E : Type 0} → (r : Result A E) (P Q : Type 0) → (P → Q) → OnOk r P → OnOk r Q
 on_ok (Ok v) P Q f h = f h
 on_ok (Err e) P Q f h = tt
+
+pub if_ok : {A E : Type 0} → (r : Result A E) (P Q : A → Type 0) → ((a : A) → P a → Q a) → IfOk r P → IfOk r Q
+if_ok (Ok v) P Q f h = f v h
+if_ok (Err e) P Q f h = tt
 
 pub error_of : {A E : Type 0} → (r : Result A E) (P : E → Type 0) → is_err r ≡ true → IfErr r P → (e : E) × P e
 error_of (Ok v) P is h = absurd (true≢false (sym is))
@@ -64,6 +68,33 @@ has_by test ranges x is =
 pub has_none : (ranges : List Range) (x : ℕ) → ¬ HasOffset ranges x → has_offset ranges x ≡ false
 has_none ranges x not = false_from_ne_true (has_offset ranges x) (λ e. not ((has_offset-is ranges x).0 e))
 
+-- by a test of the range that has this offset alone
+pub has_one : (test : Bool) (ranges : List Range) (offset : ℕ) → (IsTrue test ↔ ((x : ℕ) → InRange (record { start = offset; end = offset + 1 }) x → HasOffset ranges x)) → test ≡ has_offset ranges offset
+has_one test ranges offset each =
+    has_by test ranges offset
+    (λ is. each.0 is offset (omega arith, omega arith), λ h. each.1 (λ x within. let same : offset ≡ x = omega (arith, within.0, within.1) in subst (HasOffset ranges) same h))
+
+-- an offset that is not left out is there
+not_left_out : (ranges : List Range) (x : ℕ) → ((HasOffset ranges x → ⊥) → ⊥) → HasOffset ranges x
+not_left_out ranges x never = ⊎_elim
+    (λ is. (has_offset-is ranges x).0 is)
+    (λ is. absurd (never (λ h. both_ways (has_offset ranges x) is ((has_offset-is ranges x).1 h))))
+    (cases_Bool (has_offset ranges x))
+
+-- what neither set leaves out below the end of the first is in both
+pub in_both : (a b out_of_a out_of_b out set : List Range) (end : ℕ)
+    → ((x : ℕ) → HasOffset a x → x < end)
+    → ((x : ℕ) → HasOffset out_of_a x ↔ ((x < end) × ¬ HasOffset a x)) → ((x : ℕ) → HasOffset out_of_b x ↔ ((x < end) × ¬ HasOffset b x))
+    → ((x : ℕ) → HasOffset out x ↔ (HasOffset out_of_a x ⊎ HasOffset out_of_b x)) → ((x : ℕ) → HasOffset set x ↔ ((x < end) × ¬ HasOffset out x))
+    → (x : ℕ) → HasOffset set x ↔ (HasOffset a x × HasOffset b x)
+in_both a b out_of_a out_of_b out set end below of_a of_b either left x = (
+  λ h. let is = (left x).0 h in (
+    not_left_out a x (λ not. is.1 ((either x).1 (inl ((of_a x).1 (is.0, not))))),
+    not_left_out b x (λ not. is.1 ((either x).1 (inr ((of_b x).1 (is.0, not))))),
+  ),
+  λ h. (left x).1 (below x h.0, λ o. ⊎_elim (λ p. ((of_a x).0 p).1 h.0) (λ p. ((of_b x).0 p).1 h.1) ((either x).0 o)),
+)
+
 -- the offsets of an image's ranges, as a set
 pub set_of_image : (ranges : List Range) (part : List ℕ) → ((x : ℕ) → HasOffset ranges x ↔ Covers part x) → (x : ℕ) → has_offset ranges x ≡ covers part x
 set_of_image ranges part same x =
@@ -81,7 +112,12 @@ still_has : (ranges : List Range) (bytes : ℕ → Option ℕ) → ((x : ℕ) �
 still_has ranges bytes same x =
     let none = has-first_some_none (bytes x) in (λ h. none.0 ((same x).0 h), λ b. (same x).1 (none.1 b))
 
--- such an event but a Fresh and a Crash
+pub brings_none : (e : CoreEvent) → ((lane channel offset : ℕ) (bytes : List ℕ) (unanswered : Bool) → e ≡ Block lane channel offset bytes unanswered → ⊥) → ((image : Image) → e ≡ Crash image → ⊥) → BringsNoByte e
+brings_none (Block lane channel offset bytes unanswered) no_block no_crash = no_block lane channel offset bytes unanswered refl
+brings_none (Crash image) no_block no_crash = no_crash image refl
+brings_none e no_block no_crash = tt
+
+-- such an event but a Fresh
 pub Stands-quiet : (e : CoreEvent) (events : List CoreEvent) (old : State) (progress : Progress)
     → ((x : ℕ) → earliest (e ∷ events) x ≡ first_some (earliest events x) None) → ((x : ℕ) → kept (e ∷ events) x ≡ first_some (kept events x) None)
     → Stands events old → Tells (e ∷ events) progress
@@ -196,7 +232,9 @@ abbrev pub as_block : Image → CoreEvent
 as_block image = Block 0 0 0 image.bytes true
 
 first_is : (image : Image) (x : ℕ) → earliest (Crash image ∷ as_block image ∷ []) x ≡ held image x
-first_is image x = ap (λ (o : Option ℕ). if covers image.ranges x then o else None) (byte_at-get 0 x image.bytes)
+first_is image x =
+    let zero : x ≡ 0 + x = omega arith in
+    ap (λ (o : Option ℕ). if covers image.ranges x then o else None) (ap (byte_at 0 image.bytes) zero ∙ byte_at-get 0 x image.bytes)
 
 -- a crash that begins a list
 pub Stands-first : (image : Image) (state : State) → Stands (Crash image ∷ as_block image ∷ []) state → (events : List CoreEvent) (old : State) → old.has_begun ≡ false → Stands events old → Stands (Crash image ∷ events) state

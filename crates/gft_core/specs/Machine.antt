@@ -4,6 +4,7 @@ use Rattle.std.specs.Prelude.{Bool, true, false, if◌then◌else◌}
 use Rattle.gft_range.specs.declared.Range.{Range}
 use Rattle.gft_range.specs.Words.{HasOffset, InRange}
 use Rattle.gft_core.specs.declared.event.CoreEvent.{CoreEvent}
+use Rattle.gft_core.specs.declared.event.CoreEvent.TheVariants as event
 use Rattle.gft_core.specs.declared.progress.Progress.{Progress}
 use Rattle.gft_core.specs.declared.taken.Found.{Found}
 use Rattle.gft_core.specs.declared.taken.Taken.{Taken}
@@ -35,6 +36,12 @@ found_after found (Crash ranges) x = left_of (if has_offset ranges.ranges x then
 abbrev pub found_in : Found → List Taken → ℕ → Found
 found_in found [] x = found
 found_in found (entry ∷ later) x = found_in (found_after found entry x) later x
+
+-- no block and no crash
+abbrev pub BringsNoByte : CoreEvent → Type 0
+BringsNoByte (event.Block lane channel offset bytes unanswered) = ⊥
+BringsNoByte (event.Crash image) = ⊥
+BringsNoByte e = Unit {0}
 
 abbrev pub has_begun : List CoreEvent → Bool
 has_begun [] = false

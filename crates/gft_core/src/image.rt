@@ -66,6 +66,7 @@ fn range_at(part: &[u8], at: u64) -> Option<Range>
 /// Adds the offsets of a range, of which there may be none.
 pub(crate) fn add(set: &mut RangeSet, range: Range)
     requires room { 1 ≤ set.old.spare }
+    ensures normal { IsNormal set.old.ranges → IsNormal set.new.ranges }
     ensures offsets { (x : ℕ) → HasOffset set.new.ranges x ↔ (HasOffset set.old.ranges x ⊎ InRange range x) }
 {
     if range.start < range.end {

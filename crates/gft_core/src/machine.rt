@@ -5,7 +5,7 @@ ghost use Rattle.gft_core.specs.declared.event.CoreEvent.{CoreEvent};
 ghost use Rattle.gft_core.specs.declared.event.CoreEvent.TheVariants.{Block, Crash};
 ghost use Rattle.gft_core.specs.Kept.{kept, Booked, EndsInLimit};
 ghost use Rattle.gft_core.specs.Done.{Done};
-ghost use Rattle.gft_core.specs.Machine.{Stands, left_of};
+ghost use Rattle.gft_core.specs.Machine.{BringsNoByte, Stands, left_of};
 
 use crate::event::CoreEvent;
 use crate::image::{Image, add, common};
@@ -79,25 +79,14 @@ impl Core {
                 ..
             } => {
                 let end = *offset + bytes.bytes().len() as u64;
-                return self.take(*offset, end, bytes, *unanswered);
+                self.take(*offset, end, bytes, *unanswered)
             }
-            CoreEvent::Crash { image } => return self.crash(image),
-            CoreEvent::Eod { .. } => self.progress.eod(),
-            CoreEvent::Eof { total } => self.progress.eof(*total),
-            CoreEvent::Lost | CoreEvent::Fault | CoreEvent::Abort => {
-                self.progress = Progress::Failed;
+            CoreEvent::Crash { image } => self.crash(image),
+            _ => {
+                self.tell(event);
+                Ok(())
             }
-            CoreEvent::Mark => {}
-            CoreEvent::Fresh => {
-                self.entries.clear();
-                self.found.clear();
-                self.booked.clear();
-                self.progress = Progress::begin();
-            }
-            CoreEvent::Resume { .. } => self.progress = Progress::begin(),
         }
-        self.has_begun = true;
-        Ok(())
     }
 
     /// The offsets with a kept byte.
@@ -141,6 +130,30 @@ impl Core {
         self.progress.is_met() && self.booked.covers(whole)
     }
 
+    /// Takes an event that is no block and no crash.
+    fn tell(&mut self, event: &CoreEvent)
+        ensures { BringsNoByte event.now → (events : List CoreEvent) → Stands events self.old →
+            Stands (event.now ∷ events) self.new }
+    {
+        self.has_begun = true;
+        match event {
+            CoreEvent::Eod { .. } => self.progress.eod(),
+            CoreEvent::Eof { total } => self.progress.eof(*total),
+            CoreEvent::Lost | CoreEvent::Fault | CoreEvent::Abort => {
+                self.progress = Progress::Failed;
+            }
+            CoreEvent::Fresh => {
+                self.entries.clear();
+                self.found.clear();
+                self.booked.clear();
+                self.progress = Progress::begin();
+            }
+            CoreEvent::Resume { .. } => self.progress = Progress::begin(),
+            CoreEvent::Mark => {}
+            CoreEvent::Block { .. } | CoreEvent::Crash { .. } => {}
+        }
+    }
+
     /// Takes a block of bytes that lie from `start` up to `end`.
     fn take(&mut self, start: u64, end: u64, bytes: &Octets, unanswered: bool) -> Result<(), OutOfMemory>
         requires end { end ≡ start + length bytes.now }
@@ -156,11 +169,12 @@ impl Core {
         self.found.reserve(1)?;
         self.booked.reserve(1)?;
         self.entries.push(entry)?;
-        add(&mut self.found, Range { start, end });
-        if !unanswered {
-            add(&mut self.booked, Range { start, end });
-        }
         self.has_begun = true;
+        add(&mut self.found, Range { start, end });
+        if unanswered {
+            return Ok(());
+        }
+        add(&mut self.booked, Range { start, end });
         Ok(())
     }
 
