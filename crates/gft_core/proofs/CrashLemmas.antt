@@ -11,7 +11,7 @@ use Rattle.gft_drive.specs.Words.{Image}
 use Rattle.gft_core.specs.declared.event.CoreEvent.{CoreEvent}
 use Rattle.gft_core.specs.declared.event.CoreEvent.TheVariants.{Block, Crash, Fresh, Mark}
 use Rattle.gft_core.specs.Held.{covers, held}
-use Rattle.gft_core.specs.Kept.{first_some, byte_at, answered, earliest, kept, Booked}
+use Rattle.gft_core.specs.Kept.{first_some, byte_at, answered, carried, earliest, kept, pending, unanswered, Booked}
 use Rattle.gft_core.specs.Legal.{is_open, may_wait, Legal}
 use Rattle.gft_core.specs.Laws.{HasNoFresh, IsMarkOf, KeepsLaw, MarksLaw, RestartsLaw, Stays}
 use Rattle.gft_core.proofs.OptionLemmas.{first_some_front, first_some_either, if_true}
@@ -103,3 +103,14 @@ restarts newer older ranges list mark same legal no_open inside = (
   leaves_nothing (newer ++ Mark ∷ older) list,
   λ x h. let stays = marks newer older ranges mark same legal x (inside x h) in (stays.byte, stays.is),
 )
+
+-- ---- what a book of events needs beside the laws
+
+-- where no block is open, none is pending
+pub pending-closed : (events : List CoreEvent) → is_open events ≡ false → (x : ℕ) → pending events x ≡ None
+pending-closed [] none x = refl
+pending-closed (Fresh ∷ older) none x = refl
+pending-closed (Crash image ∷ older) none x = refl
+pending-closed (Block lane channel offset bytes true ∷ older) none x = absurd (both_ways true none refl)
+pending-closed (Block lane channel offset bytes false ∷ older) none x = ap (λ o. first_some o None) (pending-closed older none x)
+pending-closed (e ∷ older) none x = ap (λ o. first_some o None) (pending-closed older none x)

@@ -45,8 +45,9 @@ generation (Fresh ∷ older) = Fresh ∷ []
 generation (Crash image ∷ older) = Crash image ∷ generation older
 generation (e ∷ older) = e ∷ generation older
 
--- the byte at x of the earliest block of the last generation that has one, open blocks too. A Crash that begins
--- the list gives what its image holds; where the ranges of a later one lack x, the search begins anew behind it
+-- the byte at x of the earliest block of the last generation that has one, open blocks too. A Crash that
+-- begins the list gives what its image holds; where the ranges of a later one lack x, the search begins anew
+-- behind it
 abbrev pub earliest : List CoreEvent → ℕ → Option ℕ
 earliest [] x = None
 earliest (Fresh ∷ older) x = None

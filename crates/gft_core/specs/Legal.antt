@@ -14,7 +14,7 @@ is_open (Crash image ∷ older) = false
 is_open (Block lane channel offset bytes unanswered ∷ older) = unanswered || is_open older
 is_open (e ∷ older) = is_open older
 
--- what may come behind an open block, up to the next Crash and that Crash: further open blocks, a Fault, a Mark
+-- what may come behind an open block up to the next Crash, and that Crash
 abbrev pub may_wait : CoreEvent → Bool
 may_wait (Block lane channel offset bytes unanswered) = unanswered
 may_wait (Crash image) = true

@@ -41,8 +41,8 @@ abbrev pub sum_below : (ℕ → ℕ) → ℕ → ℕ
 sum_below f zero = 0
 sum_below f (suc n) = sum_below f n + f n
 
--- what the lanes of one transfer send of a source: each the offsets of its order, one after another, and a number
--- of EODs. The offsets of a REST list need not be sent
+-- what the lanes of one transfer send of a source: each the offsets of its order, one after another, and a
+-- number of EODs. The offsets of a REST list need not be sent
 pub record Plan (source : List ℕ) (rest : List Range) : Type 0 where
   pub lanes : ℕ
   pub order : ℕ → List ℕ
@@ -59,7 +59,8 @@ offsets_from offset (b ∷ bs) = offset ∷ offsets_from (offset + 1) bs
 
 -- the offsets that an event brings on a lane, and the EODs there
 abbrev pub offsets_on : ℕ → CoreEvent → List ℕ
-offsets_on k (Block lane channel offset bytes unanswered) = if lane == k then offsets_from offset bytes else []
+offsets_on k (Block lane channel offset bytes unanswered) =
+    if lane == k then offsets_from offset bytes else []
 offsets_on k (Crash image) = []
 offsets_on k e = []
 
@@ -78,8 +79,8 @@ lane_eods k [] = 0
 lane_eods k (e ∷ older) = lane_eods k older + eods_on k e
 
 module _ {source : List ℕ} {rest : List Range} (plan : Plan source rest) where
-  -- an event behind the earlier ones of its transfer: a block goes on in its lane's order; an EOD is one of the
-  -- lane's number, the last only behind the whole order; an EOF tells the sum of all numbers
+  -- an event behind the earlier ones of its transfer: a block goes on in its lane's order; an EOD is one of
+  -- the lane's number, the last only behind the whole order; an EOF tells the sum of all numbers
   abbrev pub FollowsPlan : List CoreEvent → CoreEvent → Type 0
   FollowsPlan earlier (Block lane channel offset bytes unanswered) =
       (left : List ℕ) × ((lane_offsets lane earlier ++ offsets_from offset bytes) ++ left ≡ plan.order lane)

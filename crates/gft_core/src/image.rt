@@ -51,8 +51,9 @@ fn number(part: &[u8], at: u64) -> u64
 /// The range of the slot at this place, if the slot is open and has one.
 fn range_at(part: &[u8], at: u64) -> Option<Range>
     requires { at ≤ 2 ^ 31 }
-    ensures { (x : ℕ) → IsInside result x
-        ↔ (IsOpenAs range_kind (slot_of first_layout part.now at) × Has (slot_of first_layout part.now at) x) }
+    ensures { (x : ℕ) → IsInside result x ↔
+        (IsOpenAs range_kind (slot_of first_layout part.now at)
+            × Has (slot_of first_layout part.now at) x) }
 {
     if byte(part, at) != 1 || byte(part, at + 1) != 1 {
         return None;

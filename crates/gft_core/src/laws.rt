@@ -1,6 +1,7 @@
 //! Laws of lists of events, for proofs. The functions do nothing.
 
-ghost use Rattle.gft_core.specs.Laws.{HonestLaw, PrefixLaw, HeldLaw, KeepsLaw, MarksLaw, RestartsLaw, DoneLaw};
+ghost use Rattle.gft_core.specs.Laws.{HonestLaw, PrefixLaw};
+ghost use Rattle.gft_core.specs.Laws.{HeldLaw, KeepsLaw, MarksLaw, RestartsLaw, DoneLaw};
 
 /// If no crash is in the last generation and its answered blocks carry bytes of one source, a transfer
 /// that is done has kept a front of it, and the whole if they cover it.
