@@ -54,6 +54,11 @@ abbrev pub HeldLaw : Type 0
 HeldLaw = (image : Image) (x v : ℕ)
     → (held image x ≡ Some v) ↔ (Covers image.ranges x × (slice_get image.bytes x ≡ Some v))
 
+-- behind a Crash the kept bytes are what its image holds
+abbrev pub ImageLaw : Type 0
+ImageLaw = (image : Image) (events : List CoreEvent) → Legal (Crash image ∷ events)
+    → (x : ℕ) → kept (Crash image ∷ events) x ≡ held image x
+
 abbrev pub HasNoFresh : List CoreEvent → Type 0
 HasNoFresh [] = Unit {0}
 HasNoFresh (Fresh ∷ older) = ⊥
