@@ -1,6 +1,6 @@
 -- A drive that keeps what was done to it obeys the rules of a drive.
-use Rattle.std.proofs.Common.{◌≡◌, ◌⊎◌, inl, inr, ⊎_elim, ℕ, ◌+◌, ◌-◌, ◌≤◌, Bool, true, false, ◌&&◌, cond}
-use Rattle.std.proofs.Common.{List, [], ◌∷◌, ◌++◌, length, get_or, take, drop, replicate, Some, refl, sym}
+use Rattle.std.proofs.Common.{◌≡◌, inl, inr, ⊎_elim, ℕ, ◌+◌, ◌-◌, ◌≤◌, Bool, true, false, ◌&&◌, cond}
+use Rattle.std.proofs.Common.{List, [], ◌∷◌, ◌++◌, length, get_or, take, drop, replicate, refl, sym}
 use Rattle.std.proofs.Common.{◌∙◌, ap, subst, arith, length-append, length-drop}
 use Rattle.std.proofs.lemmas.List.{get_or_append_left, get_or-append_right, get_or-take, get_or-drop}
 use Rattle.std.proofs.lemmas.List.{get_or_past, get_or-replicate}
@@ -23,7 +23,7 @@ module _ (at : ℕ) (bytes old : List ℕ) where
   at_padded k = ⊎_elim
       (λ below. get_or_append_left old (replicate (at - length old) 0) 0 k below)
       (λ above. get_or-append_right old (replicate (at - length old) 0) (length old) k 0 refl above ∙ zeros
-          (at - length old) (k - length old) ∙ sym (get_or_past old k 0 above))
+      (at - length old) (k - length old) ∙ sym (get_or_past old k 0 above))
       (cases_lt k (length old))
     where
       zeros : (n i : ℕ) → get_or {A = ℕ} (replicate n 0) i 0 ≡ 0
@@ -32,8 +32,13 @@ module _ (at : ℕ) (bytes old : List ℕ) where
           (omega (arith, above, length-replicate {A = ℕ} n 0))) (cases_lt i n)
 
   front_long : length (take at (old ++ replicate (at - length old) 0)) ≡ at
-  front_long = omega (arith, length-take at (old ++ replicate (at - length old) 0), length-append old
-      (replicate (at - length old) 0), length-replicate {A = ℕ} (at - length old) 0)
+  front_long = omega (
+    arith,
+    length-take at (old ++ replicate (at - length old) 0),
+    length-append old
+        (replicate (at - length old) 0),
+    length-replicate {A = ℕ} (at - length old) 0,
+  )
 
   abbrev front : List ℕ
   front = take at (old ++ replicate (at - length old) 0)
@@ -45,7 +50,7 @@ module _ (at : ℕ) (bytes old : List ℕ) where
   overwrites = record {
     inside = λ k lt.
         get_or_append_left (front ++ bytes) (drop (at + length bytes) old) 0 (at + k)
-            (omega (arith, lt, both_long))
+        (omega (arith, lt, both_long))
         ∙ get_or-append_right front bytes at (at + k) 0 front_long (omega arith)
         ∙ ap (λ (i : ℕ). get_or bytes i 0) (minus k);
     before = λ k lt.
@@ -55,11 +60,15 @@ module _ (at : ℕ) (bytes old : List ℕ) where
         ∙ at_padded k;
     after = λ k le.
         get_or-append_right (front ++ bytes) (drop (at + length bytes) old)
-            (at + length bytes) k 0 both_long le
+        (at + length bytes) k 0 both_long le
         ∙ get_or-drop (at + length bytes) old (k - (at + length bytes)) 0
         ∙ ap (λ (i : ℕ). get_or old i 0) (plus k le);
-    size = omega (arith, length-append (front ++ bytes) (drop (at + length bytes) old), both_long,
-        length-drop (at + length bytes) old);
+    size = omega (
+      arith,
+      length-append (front ++ bytes) (drop (at + length bytes) old),
+      both_long,
+      length-drop (at + length bytes) old,
+    );
   }
     where
       minus : (k : ℕ) → at + k - at ≡ k
@@ -103,7 +112,7 @@ torn_cut len more xs le = record {
 -- what a read gives is one of the images
 left_write : (here is_done : Bool) (at : ℕ) (bytes read : List ℕ) (may : List ℕ → Type 0) → may read
     → cond here ((from : List ℕ) × may from × Torn at (length bytes) from
-        (cond (here && is_done) (overwritten at bytes read) read))
+    (cond (here && is_done) (overwritten at bytes read) read))
     (may (cond (here && is_done) (overwritten at bytes read) read))
 left_write true true at bytes read may is =
     (read, is, torn_written at (length bytes) bytes read _ (omega arith) (overwrites at bytes read))
@@ -112,7 +121,7 @@ left_write false is_done at bytes read may is = is
 
 left_cut : (here : Bool) (len : ℕ) (read : List ℕ) (may : List ℕ → Type 0) → may read
     → cond here ((from : List ℕ) × may from × TornCut len from (cond here (take len read) read))
-        (may (cond here (take len read) read))
+    (may (cond here (take len read) read))
 left_cut true len read may is = (read, is, torn_cut len len read (omega arith))
 left_cut false len read may is = is
 
@@ -152,5 +161,5 @@ lawful label disk faults = record {
       let same : image_after disk.first disk.steps ≡ image = cc told in
       subst (λ (i : Image). ImagesSince disk.first disk.steps (length disk.steps) i) same
       (since_now disk.first disk.steps (length disk.steps) (image_after disk.first disk.steps)
-          (left_content disk.first disk.steps Bytes, left_content disk.first disk.steps Ranges));
+      (left_content disk.first disk.steps Bytes, left_content disk.first disk.steps Ranges));
 }

@@ -139,7 +139,10 @@ fn stop(rt: &(impl Abort + Copy), alloc: Global, set: &RangeSet, calls: u32) -> 
         let (ranges, complete) = (found.set.as_slice(), found.complete);
         let is_told = is_behind(ranges, complete, done)
             || is_behind(ranges, complete, done.saturating_add(1));
-        assert!(rt; is_told, "at {calls}, {choice:?}: {ranges:?}, {complete:?} behind {done}");
+        assert!(rt;
+            is_told,
+            "at {calls}, {choice:?}: {ranges:?}, {complete:?} behind {done}"
+        );
     }
     Ok(())
 }
@@ -229,7 +232,10 @@ fn attaches(rt: &impl Abort, drive: &MemoryDrive, from: usize) {
     are_calls(rt, drive, from.saturating_add(1), &behind);
     for i in 3..261 {
         let call = drive.call(from.saturating_add(i));
-        assert!(rt; call.is_some_and(|call| call.call == CallKind::Read), "at {i}");
+        assert!(rt;
+            call.is_some_and(|call| call.call == CallKind::Read),
+            "at {i}"
+        );
     }
 }
 
