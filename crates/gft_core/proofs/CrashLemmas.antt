@@ -1,5 +1,5 @@
 -- What was booked stays over crashes, and so does what a mark names.
-use Rattle.std.proofs.Common.{◌≡◌, ◌⊎◌, ℕ, List, [], ◌∷◌, ◌++◌, Some, None, Bool, true, false, refl, sym, ap, ◌∙◌, subst, ⊎_elim, inl, inr}
+use Rattle.std.proofs.Common.{◌≡◌, ℕ, List, [], ◌∷◌, ◌++◌, Some, None, Bool, true, false, refl, sym, ap, ◌∙◌, subst, ⊎_elim, inl, inr}
 use Rattle.std.specs.Prelude.{Option, slice_get, if◌then◌else◌, take, drop}
 use Rattle.std.proofs.lemmas.Bool.{both_ways, false_from_ne_true}
 use Rattle.std.proofs.lemmas.List.{take-append-drop}
@@ -13,7 +13,7 @@ use Rattle.gft_core.specs.declared.event.CoreEvent.TheVariants.{Block, Crash, Fr
 use Rattle.gft_core.specs.Held.{covers, held}
 use Rattle.gft_core.specs.Kept.{first_some, byte_at, answered, earliest, kept, pending, Booked}
 use Rattle.gft_core.specs.Legal.{is_open, Legal}
-use Rattle.gft_core.specs.Laws.{HasNoFresh, ImageLaw, IsMarkOf, KeepsLaw, MarksLaw, RestartsLaw, Stays}
+use Rattle.gft_core.specs.Laws.{HasNoFresh, ImageLaw, IsMarkOf, KeepsLaw, MarksLaw, RestartsLaw}
 use Rattle.gft_core.proofs.HeldLemmas.{covers-is}
 use Rattle.gft_core.proofs.OptionLemmas.{first_some_front, first_some_either, if_true, if_value, some_or_none}
 

@@ -1,9 +1,9 @@
 -- The ranges of an image as a function are those of its part.
-use Rattle.std.proofs.Common.{◌≡◌, ◌⊎◌, ◌↔◌, ℕ, zero, suc, ◌+◌, ◌*◌, ◌%◌, ◌==◌, ◌<◌, ap, get_or, List, Bool, true, false, true≢false, sym, inl, inr, ⊎_elim, subst, eq-eqb, arith}
-use Rattle.std.specs.Prelude.{◌&&◌, ◌||◌, nat_le, nat_lt, slice_get, slice_index}
+use Rattle.std.proofs.Common.{◌≡◌, ◌⊎◌, ◌↔◌, ℕ, zero, suc, ◌+◌, ◌*◌, ◌%◌, ◌==◌, ap, get_or, List, true, true≢false, sym, inl, inr, ⊎_elim, subst, eq-eqb, arith}
+use Rattle.std.specs.Prelude.{◌&&◌, nat_le, nat_lt, slice_get, slice_index}
 use Rattle.std.proofs.lemmas.Bool.{and_from, and_parts, cases_eq, eqb-true, le-leb, leb-true, lt-ltb, ltb-true, or_cases, or_left, or_right}
-use Rattle.gft_drive.specs.Words.{Covers, Has, Image, IsOpenAs, Names, Slot, bank_at, first_layout, layout_at, number_at, range_kind, selected, slot, slot_at}
-use Rattle.gft_core.specs.Held.{bank_names, covers, held, slot_names}
+use Rattle.gft_drive.specs.Words.{Covers, Has, IsOpenAs, Names, Slot, bank_at, first_layout, layout_at, number_at, range_kind, selected, slot, slot_at}
+use Rattle.gft_core.specs.Held.{bank_names, covers, slot_names}
 use Rattle.gft_core.specs.Laws.{HeldLaw}
 use Rattle.gft_core.proofs.OptionLemmas.{if_true, if_value, if_holds}
 

@@ -1,13 +1,13 @@
 -- Which offsets a block books.
-use Rattle.std.proofs.Common.{◌≡◌, ◌≢◌, ◌⊎◌, ℕ, zero, suc, ◌+◌, ◌<◌, ◌≤◌, ◌↔◌, List, [], ◌∷◌, ◌++◌, length, Some, None, Bool, false, refl, sym, ap, ◌∙◌, inl, inr, ⊎_elim, eq-eqb, ne_eqb, arith}
+use Rattle.std.proofs.Common.{◌≡◌, ◌≢◌, ◌⊎◌, ℕ, zero, suc, ◌+◌, ◌<◌, ◌≤◌, ◌↔◌, List, [], ◌∷◌, length, Some, None, Bool, false, refl, sym, ap, ◌∙◌, inl, inr, ⊎_elim, eq-eqb, ne_eqb, arith}
 use Rattle.std.specs.Prelude.{if◌then◌else◌, slice_get}
 use Rattle.std.proofs.lemmas.Option.{none-some}
 use mathlib.Core.Logic.{dite}
 use native.Mathlib.Decide.{ℕ_discrete}
 use Rattle.gft_core.specs.declared.event.CoreEvent.{CoreEvent}
 use Rattle.gft_core.specs.declared.event.CoreEvent.TheVariants.{Block}
-use Rattle.gft_core.specs.Kept.{first_some, byte_at, kept, Booked}
-use Rattle.gft_core.proofs.OptionLemmas.{first_some-none, first_some-assoc, first_some_front, first_some_back, first_some_either}
+use Rattle.gft_core.specs.Kept.{byte_at, kept, Booked}
+use Rattle.gft_core.proofs.OptionLemmas.{first_some_front, first_some_back, first_some_either}
 
 pub byte_at-here : (offset b : ℕ) (bs : List ℕ) (x : ℕ) → x ≡ offset → byte_at offset (b ∷ bs) x ≡ Some b
 byte_at-here offset b bs x e = ap (λ (c : Bool). if c then Some b else byte_at (offset + 1) bs x) (eq-eqb x offset e)

@@ -1,6 +1,6 @@
 -- What one event more does to the machine, and when the machine is done.
 use Rattle.std.proofs.Common.{◌≡◌, ◌⊎◌, ℕ, ◌+◌, ◌-◌, ◌<◌, ◌≤◌, ◌↔◌, List, [], ◌∷◌, ◌++◌, length, Ok, Err, Some, None, Bool, true, false, true≢false, refl, sym, ap, ◌∙◌, subst, inl, inr, ⊎_elim, is_err, arith}
-use Rattle.std.specs.Prelude.{Option, Result, IsTrue, OnOk, IfOk, IfErr, ◌&&◌, ◌||◌, nat_le, nat_lt, if◌then◌else◌}
+use Rattle.std.specs.Prelude.{Option, Result, IsTrue, OnOk, IfOk, IfErr, ◌&&◌, nat_le, nat_lt, if◌then◌else◌}
 use Rattle.std.proofs.lemmas.Bool.{and_from, and_parts, both_ways, cases_Bool, false_from_ne_true, le-leb, leb-true, lt-ltb, ltb-true, or_cases, or_left, or_right}
 use Rattle.std.proofs.lemmas.Option.{none-some}
 use Rattle.gft_range.specs.declared.Range.{Range}
@@ -12,11 +12,11 @@ use Rattle.gft_core.specs.declared.taken.Found.{Found}
 use Rattle.gft_core.specs.declared.taken.Taken.{Taken}
 use Rattle.gft_core.specs.declared.taken.Taken.TheVariants as taken
 use Rattle.gft_core.specs.Held.{covers, held}
-use Rattle.gft_core.specs.Kept.{first_some, byte_at, answered, carried, earliest, kept, Booked}
+use Rattle.gft_core.specs.Kept.{first_some, byte_at, earliest, kept}
 use Rattle.gft_core.specs.Done.{Done}
 use Rattle.gft_core.specs.declared.progress.Progress.{Progress}
 use Rattle.gft_core.specs.declared.progress.Progress.TheVariants.{Idle}
-use Rattle.gft_core.specs.Machine.{BringsNoByte, State, Stands, found_after, found_in, has_begun, has_offset, left_of}
+use Rattle.gft_core.specs.Machine.{BringsNoByte, State, Stands, found_after, found_in, has_offset, left_of}
 use Rattle.gft_core.specs.Progress.{IsSoundProgress, HasMet, Tells}
 use Rattle.gft_core.proofs.OptionLemmas.{first_some-none, first_some_back, first_some_either, first_some_front, has-first_some_none}
 use Rattle.gft_core.proofs.HeldLemmas.{covers-is}

@@ -1,9 +1,8 @@
 -- A STOR of honest senders that is done has kept the source.
-use Rattle.std.proofs.Common.{◌≡◌, ◌⊎◌, ℕ, ◌+◌, ◌<◌, ◌≤◌, ◌==◌, List, [], ◌∷◌, ◌++◌, length, Some, None, Bool, true, false, refl, sym, ap, ◌∙◌, subst, inl, inr, ⊎_elim, lt_of_not-le, eq-eqb, ne_eqb, append-nil, length-append, arith}
+use Rattle.std.proofs.Common.{◌≡◌, ◌⊎◌, ℕ, ◌+◌, ◌<◌, ◌≤◌, ◌==◌, List, [], ◌∷◌, ◌++◌, Some, None, Bool, true, false, refl, sym, ap, ◌∙◌, subst, inl, inr, ⊎_elim, lt_of_not-le, eq-eqb, ne_eqb, append-nil, arith}
 use Rattle.std.specs.Prelude.{Option, slice_get, if◌then◌else◌}
 use Rattle.std.proofs.lemmas.Bool.{both_ways}
 use Rattle.std.proofs.lemmas.Option.{none-some, same_Some}
-use Rattle.std.proofs.lemmas.List.{nil_from_length}
 use mathlib.Core.Logic.{dite}
 use native.Mathlib.Decide.{ℕ_discrete, dec_le}
 use Rattle.gft_range.specs.declared.Range.{Range}
@@ -13,8 +12,8 @@ use Rattle.gft_core.specs.declared.event.CoreEvent.TheVariants.{Block, Eod, Eof,
 use Rattle.gft_core.specs.Held.{covers}
 use Rattle.gft_core.specs.Kept.{first_some, byte_at, carried, answered, earliest, kept, Booked}
 use Rattle.gft_core.specs.Legal.{is_open, Legal}
-use Rattle.gft_core.specs.Done.{since, total, eod_count, Done}
-use Rattle.gft_core.specs.Sender.{AllBring, Brings, CarriesSource, FollowsPlan, IsAmong, IsInOrder, Plan, lane_eods, lane_offsets, list_of, offsets_from, stor_list, sum_below}
+use Rattle.gft_core.specs.Done.{since, total, eod_count}
+use Rattle.gft_core.specs.Sender.{AllBring, Brings, CarriesSource, IsAmong, IsInOrder, Plan, lane_eods, lane_offsets, list_of, offsets_from, stor_list, sum_below}
 use Rattle.gft_core.specs.Laws.{DoneLaw}
 use Rattle.gft_core.proofs.CrashLemmas.{shut}
 use Rattle.gft_core.proofs.HonestLemmas.{below_length}

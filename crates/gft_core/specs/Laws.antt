@@ -1,13 +1,13 @@
 -- What events leave of what was sent, without crashes and with them.
 use Rattle.std.specs.Prelude.{◌≡◌, ◌⊎◌, ◌↔◌, ℕ, ◌<◌, ◌≤◌, List, [], ◌∷◌, ◌++◌, length, take, slice_get}
-use Rattle.std.specs.Prelude.{Some, None, true, false}
+use Rattle.std.specs.Prelude.{Some, None, false}
 use Rattle.gft_range.specs.declared.Range.{Range}
 use Rattle.gft_range.specs.declared.TheConstants.{MAX_ITEMS}
 use Rattle.gft_range.specs.Words.{HasOffset, IsNormal, KeptRanges}
 use Rattle.gft_drive.specs.Words.{Covers, Image}
 use Rattle.gft_core.specs.declared.event.CoreEvent.{CoreEvent}
 use Rattle.gft_core.specs.declared.event.CoreEvent.TheVariants.{Crash, Fresh, Mark, Resume}
-use Rattle.gft_core.specs.Held.{covers, held}
+use Rattle.gft_core.specs.Held.{held}
 use Rattle.gft_core.specs.Kept.{answered, generation, kept, Booked}
 use Rattle.gft_core.specs.Done.{Done}
 use Rattle.gft_core.specs.Legal.{Legal, is_open}

@@ -53,7 +53,7 @@ fn range_at(part: &[u8], at: u64) -> Option<Range>
     requires { at ≤ 2 ^ 31 }
     ensures { (x : ℕ) → IsInside result x ↔
         (IsOpenAs range_kind (slot_of first_layout part.now at)
-            × Has (slot_of first_layout part.now at) x) }
+        × Has (slot_of first_layout part.now at) x) }
 {
     if byte(part, at) != 1 || byte(part, at + 1) != 1 {
         return None;

@@ -39,11 +39,11 @@ impl Model for Core {
     ghost Value = { State };
 
     ghost view = { λ c. record {
-        entries = c.entries.items;
-        found = c.found.ranges;
-        booked = c.booked.ranges;
-        progress = c.progress;
-        has_begun = c.has_begun;
+      entries = c.entries.items;
+      found = c.found.ranges;
+      booked = c.booked.ranges;
+      progress = c.progress;
+      has_begun = c.has_begun;
     } };
 
     ghost invariant = { λ c. IsNormal c.booked.ranges };
@@ -155,7 +155,13 @@ impl Core {
     }
 
     /// Takes a block of bytes that lie from `start` up to `end`.
-    fn take(&mut self, start: u64, end: u64, bytes: &Octets, unanswered: bool) -> Result<(), OutOfMemory>
+    fn take(
+        &mut self,
+        start: u64,
+        end: u64,
+        bytes: &Octets,
+        unanswered: bool,
+    ) -> Result<(), OutOfMemory>
         requires end { end ≡ start + length bytes.now }
         ensures stands { OnOk result ((lane channel : ℕ) (events : List CoreEvent) →
             Stands events self.old →

@@ -27,7 +27,9 @@ pub enum Taken {
         unanswered: bool,
     },
     /// A crash left an image with these ranges.
-    Crash { ranges: RangeSet },
+    Crash {
+        ranges: RangeSet,
+    },
 }
 
 /// The byte at an offset of bytes that lie from `start` on, if there is one.

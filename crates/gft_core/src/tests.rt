@@ -114,9 +114,13 @@ fn check(rt: &impl Abort, alloc: Global, rows: &[Row]) -> Result<(), Fail> {
 }
 
 const FIRST: Option<Range> = Some(Range { start: 0, end: 5 });
+
 const SECOND: Option<Range> = Some(Range { start: 5, end: 10 });
+
 const BOTH: Option<Range> = Some(Range { start: 0, end: 10 });
+
 const H: Option<u8> = Some(b'h');
+
 const J: Option<u8> = Some(b'j');
 
 #[test]
@@ -178,16 +182,31 @@ fn a_crash_decides_on_open_blocks(rt: HostRuntime) -> Result<(), Fail> {
     use Told::{CrashBare, CrashFive, Fresh, Hello, Jelly, OpenHello, OpenJelly, World};
     let rows: [Row; 8] = [
         (&[Fresh, OpenHello, CrashBare(b"hel")], None, None, false),
-        (&[Fresh, OpenHello, CrashBare(b"hel"), Jelly], FIRST, J, false),
+        (
+            &[Fresh, OpenHello, CrashBare(b"hel"), Jelly],
+            FIRST,
+            J,
+            false,
+        ),
         (&[Fresh, OpenHello, CrashFive(b"hello")], FIRST, H, false),
-        (&[Fresh, OpenHello, CrashFive(b"hello"), Jelly], FIRST, H, false),
+        (
+            &[Fresh, OpenHello, CrashFive(b"hello"), Jelly],
+            FIRST,
+            H,
+            false,
+        ),
         (
             &[Fresh, OpenJelly, OpenHello, CrashFive(b"jelly")],
             FIRST,
             J,
             false,
         ),
-        (&[Fresh, Jelly, OpenHello, CrashFive(b"jelly")], FIRST, J, false),
+        (
+            &[Fresh, Jelly, OpenHello, CrashFive(b"jelly")],
+            FIRST,
+            J,
+            false,
+        ),
         (&[Fresh, Hello, CrashFive(b"hello")], FIRST, H, false),
         (&[Fresh, Hello, CrashFive(b"hello"), World], BOTH, H, false),
     ];
@@ -198,12 +217,7 @@ fn a_crash_decides_on_open_blocks(rt: HostRuntime) -> Result<(), Fail> {
 fn a_restart_behind_a_crash(rt: HostRuntime) -> Result<(), Fail> {
     use Told::{CrashBare, CrashFive, Eod, Eof, Fresh, Hello, Mark, OpenHello, Resume, World};
     let rows: [Row; 7] = [
-        (
-            &[CrashFive(b"hello"), CrashFive(b"hello")],
-            FIRST,
-            H,
-            false,
-        ),
+        (&[CrashFive(b"hello"), CrashFive(b"hello")], FIRST, H, false),
         (
             &[Fresh, OpenHello, CrashBare(b""), CrashBare(b"")],
             None,
@@ -216,21 +230,52 @@ fn a_restart_behind_a_crash(rt: HostRuntime) -> Result<(), Fail> {
             H,
             false,
         ),
-        (&[Fresh, Hello, Eof(1), Eod, CrashFive(b"hello")], FIRST, H, false),
         (
-            &[Fresh, Hello, Resume, CrashFive(b"hello"), World, Eof(1), Eod],
+            &[Fresh, Hello, Eof(1), Eod, CrashFive(b"hello")],
+            FIRST,
+            H,
+            false,
+        ),
+        (
+            &[
+                Fresh,
+                Hello,
+                Resume,
+                CrashFive(b"hello"),
+                World,
+                Eof(1),
+                Eod,
+            ],
             BOTH,
             H,
             false,
         ),
         (
-            &[Fresh, Hello, Resume, CrashFive(b"hello"), Resume, World, Eof(1), Eod],
+            &[
+                Fresh,
+                Hello,
+                Resume,
+                CrashFive(b"hello"),
+                Resume,
+                World,
+                Eof(1),
+                Eod,
+            ],
             BOTH,
             H,
             true,
         ),
         (
-            &[Fresh, Hello, Mark, CrashFive(b"hello"), Resume, World, Eof(1), Eod],
+            &[
+                Fresh,
+                Hello,
+                Mark,
+                CrashFive(b"hello"),
+                Resume,
+                World,
+                Eof(1),
+                Eod,
+            ],
             BOTH,
             H,
             true,

@@ -1,4 +1,4 @@
-use Rattle.std.proofs.Common.{◌≡◌, ◌+◌, ◌*◌, ◌%◌, ◌↔◌, ◌⊎◌, ℕ, List, ap, ◌∙◌, subst, slice_index, inl, ⊎_elim, arith}
+use Rattle.std.proofs.Common.{◌≡◌, ◌+◌, ◌*◌, ◌%◌, ◌↔◌, ◌⊎◌, ℕ, List, ap, ◌∙◌, subst, slice_index, inl, ⊎_elim}
 use Rattle.gft_range.specs.Words.{HasOffset}
 use Rattle.gft_drive.specs.Words.{Has, Image, IsOpenAs, Names, bank_at, first_layout, range_kind, selected, slot, slot_at, slot_of}
 use Rattle.gft_core.specs.Machine.{IsInside}
