@@ -1,4 +1,4 @@
-ghost use Rattle.std.specs.Prelude.{◌≡◌, ◌+◌, ◌≤◌, ◌<◌, ◌^◌, ◌⊎◌, ◌↔◌, ℕ, slice_index, IfOk, OnOk, IsTrue};
+ghost use Rattle.std.specs.Prelude.{◌≡◌, ◌+◌, ◌≤◌, ◌<◌, ◌^◌, ◌⊎◌, ◌↔◌, ℕ, slice_index, IfOk};
 ghost use Rattle.gft_range.specs.Words.{IsNormal, HasOffset, InRange};
 ghost use Rattle.gft_drive.specs.Words.{Covers, Has, IsOpenAs, first_layout, number_at, range_kind, slot_of};
 ghost use Rattle.gft_core.specs.Machine.{IsInside, has_offset};

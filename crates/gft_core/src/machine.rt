@@ -1,11 +1,11 @@
-ghost use Rattle.std.specs.Prelude.{◌≡◌, ℕ, ◌+◌, ◌≤◌, ◌↔◌, List, [], ◌∷◌, length, false, IsTrue, OnOk, OnErr};
+ghost use Rattle.std.specs.Prelude.{◌≡◌, ℕ, ◌+◌, ◌↔◌, List, [], ◌∷◌, length, IsTrue, OnOk, OnErr};
 ghost use Rattle.gft_range.specs.Words.{IsNormal, HasOffset};
 ghost use Rattle.gft_drive.specs.Words.{Covers, Image};
 ghost use Rattle.gft_core.specs.declared.event.CoreEvent.{CoreEvent};
 ghost use Rattle.gft_core.specs.declared.event.CoreEvent.TheVariants.{Block, Crash};
 ghost use Rattle.gft_core.specs.Kept.{kept, Booked, EndsInLimit};
 ghost use Rattle.gft_core.specs.Done.{Done};
-ghost use Rattle.gft_core.specs.Machine.{BringsNoByte, Stands, left_of};
+ghost use Rattle.gft_core.specs.Machine.{BringsNoByte, Stands};
 
 use crate::event::CoreEvent;
 use crate::image::{Image, add, common};
