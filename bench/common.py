@@ -33,8 +33,9 @@ def copy_crates(folder, crates, leave_out=("out",)):
     subprocess.run(["git", "init", "-q", folder], check=True)
 
 
-def build_over(folder, name, stands_on, main):
-    """Proves and builds a program over a copy of the crates that it stands on; its source is no crate of the repository."""
+def build_over(folder, name, stands_on, main, proofs=()):
+    """Proves and builds a program over a copy of the crates that it stands on; its source is no crate of the repository.
+    What it has of proofs are pairs: where a file lies in the crate, and what is copied there."""
     own = [crate for crate in stands_on if crate in rows()]
     copy_crates(folder, list(dict.fromkeys(lower for crate in own for lower in crates_below(crate))))
     with open(os.path.join(folder, "crates.txt"), "a") as kept:
@@ -42,6 +43,9 @@ def build_over(folder, name, stands_on, main):
     crate = os.path.join(folder, "crates", name)
     os.makedirs(os.path.join(crate, "src"))
     shutil.copy(main, os.path.join(crate, "src", "main.rt"))
+    for place, proof in proofs:
+        os.makedirs(os.path.dirname(os.path.join(crate, place)), exist_ok=True)
+        shutil.copy(proof, os.path.join(crate, place))
     built = subprocess.run(["rt", "run"], cwd=crate, stdin=subprocess.DEVNULL, capture_output=True, text=True)
     program = os.path.join(crate, "out", name)
     if not os.path.exists(program):

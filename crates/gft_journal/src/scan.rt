@@ -1,9 +1,11 @@
 ghost use Rattle.std.specs.Prelude.{◌≡◌, ◌<◌, ◌≤◌, ◌+◌, ◌*◌, ◌^◌, ℕ, [], None, length, slice_index, OnOk};
-ghost use Rattle.std.specs.Prelude.{IsErrOf};
+ghost use Rattle.std.specs.Prelude.{OnErr, IsErrOf};
+ghost use Rattle.gft_range.specs.Words.{IsUnion};
 ghost use Rattle.gft_drive.specs.Words.{first_layout, number_at, slot_of};
 ghost use Rattle.gft_journal.specs.Scan.{Takes, IsBad, IsInLimit, GoesOver, MeetsBad};
 
 use crate::slot::{COMPLETE, RANGE};
+use gft_base::OutOfMemory;
 use gft_range::{Range, RangeSet};
 use std::alloc::Global;
 
@@ -42,6 +44,21 @@ fn read_number(bytes: &[u8], at: usize) -> u64
     high * 16_777_216 + low
 }
 
+// Adds a range. Where all its offsets are there, nothing is moved.
+fn add(set: &mut RangeSet, range: Range) -> Result<(), OutOfMemory>
+    requires { range.start < range.end }
+    ensures union { OnOk result (IsUnion set.old.ranges range set.new.ranges) }
+    ensures count { OnOk result (length set.new.ranges ≤ length set.old.ranges + 1) }
+    ensures err { OnErr result (set.new ≡ set.old) }
+{
+    if set.covers(range) {
+        return Ok(());
+    }
+    set.reserve(1)?;
+    set.insert(range);
+    Ok(())
+}
+
 impl Scan {
     /// Nothing is taken yet.
     pub fn new(alloc: Global) -> Scan
@@ -74,10 +91,9 @@ impl Scan {
         }
         match slot[1] {
             RANGE if start < end => {
-                if self.set.reserve(1).is_err() {
+                if add(&mut self.set, Range { start, end }).is_err() {
                     return Err(Refused::Memory);
                 }
-                self.set.insert(Range { start, end });
             }
             COMPLETE if start == 0 => self.complete = Some(end),
             _ => return Err(Refused::Bad),
