@@ -66,7 +66,7 @@ abbrev pub IsBadOf : {T : Type 0} → DriveState → ℕ → ℕ → Scan → Re
 IsBadOf drive at first scan result =
     (damage : Damage) → result ≡ Err (Damaged damage)
     → WhereTold drive (λ xs. IsScan xs at first scan → (i : ℕ) × (damage ≡ Slot i) × (i < 65534)
-        × IsBadAt xs at i)
+    × IsBadAt xs at i)
 
 -- and where none was
 abbrev pub IsFirstBadOf : {T : Type 0} → DriveState → ℕ → Result T AttachError → Type 0
@@ -92,7 +92,7 @@ abbrev pub IsVersionOf : {T : Type 0} → DriveState → ℕ → Result T Attach
 IsVersionOf drive bank result =
     (damage : Damage) → result ≡ Err (Damaged damage)
     → WhereTold drive (λ xs. (damage ≡ Version bank (slice_index xs (bank_at bank)))
-        × (1 < slice_index xs (bank_at bank)))
+    × (1 < slice_index xs (bank_at bank)))
 
 -- what was found is what a read gives, and the journal is that of the part
 pub record FindsIn (drive : DriveState) (found : Found) : Type 0 where

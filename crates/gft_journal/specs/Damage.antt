@@ -37,7 +37,7 @@ abbrev pub FirstDamage : Damage → List ℕ → Type 0
 FirstDamage (Size len) xs = (len ≡ length xs) × (length xs ≢ RANGES_LEN)
 FirstDamage (Version bank found) xs =
     (length xs ≡ RANGES_LEN) × (bank ≡ selected xs) × (found ≡ slice_index xs (bank_at (selected xs)))
-        × (1 < found)
+    × (1 < found)
 FirstDamage (Slot i) xs =
     (length xs ≡ RANGES_LEN) × (slice_index xs (bank_at (selected xs)) ≤ 1) × FirstBadSlot xs (selected xs) i
 FirstDamage (Ranges count) xs = HasTooMany xs count
