@@ -2,7 +2,9 @@
 use Rattle.std.specs.Prelude.{◌≡◌, ◌≢◌, ◌↔◌, ◌⊎◌, ℕ, ◌+◌, ◌*◌, ◌<◌, ◌≤◌, List, length, slice_index, Some}
 use Rattle.gft_drive.specs.Words.{IsFit, IsOpenAs, IsPadded, LastEndsAt, Names, complete_kind, first_layout}
 use Rattle.gft_drive.specs.Words.{range_kind, slot_at, slot_of}
+use Rattle.gft_base.specs.declared.TheConstants.{LIMIT}
 use Rattle.gft_range.specs.Words.{HasOffset}
+use Rattle.gft_journal.specs.Bank.{IsEnd}
 use Rattle.gft_journal.specs.declared.scan.Scan.{Scan}
 
 -- the offset is among those of a slot
@@ -15,6 +17,11 @@ IsGoodSlot slot = IsFit (slot_of first_layout slot 0) × IsPadded first_layout s
 -- the slot's bytes are those of no slot
 abbrev pub IsBad : List ℕ → Type 0
 IsBad slot = ((slot_of first_layout slot 0).gate ≡ 1) × ¬ IsGoodSlot slot
+
+-- no range ends above the limit, and no length is above it
+pub record IsInLimit (scan : Scan) : Type 0 where
+  pub ranges : (x : ℕ) → HasOffset scan.set.ranges x → x < LIMIT
+  pub complete : IsEnd scan.complete
 
 -- one slot more is taken into account
 pub record Takes (index : ℕ) (slot : List ℕ) (old new : Scan) : Type 0 where
