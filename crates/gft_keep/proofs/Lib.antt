@@ -1,0 +1,6 @@
+mod Changing
+mod Failing
+mod Images
+mod Opened
+mod Running
+mod Stages
