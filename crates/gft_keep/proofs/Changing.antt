@@ -263,3 +263,46 @@ is_finished len read staged image cut step =
       finished = record { finished = record { finishes = is.done; size = ap length step.kept ∙ cut.size }; complete = step.changed.complete };
       sound = is.sound;
     }
+
+-- ---- resume
+
+-- the file is born, and its ranges are those of the set
+pub record BornNaming (set : List Range) (read image : Image) : Type 0 where
+  pub born : IsBornFrom read image
+  pub names : (x : ℕ) → Covers image.ranges x ↔ HasOffset set x
+
+abbrev pub Naming : List Range → Image → Type 0
+Naming set read = (x : ℕ) → Covers read.ranges x ↔ HasOffset set x
+
+pub start_born_naming : (set : List Range) (read staged image : Image) → IsStart (Naming set) read staged → OnPart Ranges Bears staged image → BornNaming set read image
+start_born_naming set read staged image start step =
+    let born = start_born (Naming set) read staged image start step in
+    record { born = born; names = λ x. iff_then (born.bears.ranges x) (start.facts x) }
+
+pub resumes : (set : List Range) (read staged image : Image) → BornNaming set read staged → OnPart Ranges (BecomesOrNot set None) staged image → Soundly Reopens read image
+resumes set read staged image naming step = unmarks set read staged image naming.born naming.names step
+
+pub record IsReopenedSoundly (read image : Image) : Type 0 where
+  pub reopened : IsReopened read image
+  pub sound : IsSound image
+
+pub is_resumed : (set : List Range) (read staged image : Image) → BornNaming set read staged → OnPart Ranges (Becomes set None) staged image → IsReopenedSoundly read image
+is_resumed set read staged image naming step =
+    let torn : OnPart Ranges (BecomesOrNot set None) staged image = record { changed = inr step.changed; kept = step.kept } in
+    let is = resumes set read staged image naming torn in
+    record {
+      reopened = record {
+        reopens = is.done;
+        incomplete = λ n now. let gone : None ≡ Some n = (step.changed.complete n).0 now in absurd (cc);
+        born = step.changed.born.1 naming.born.bears.born;
+      };
+      sound = is.sound;
+    }
+
+-- where there is no mark the birth is enough
+pub is_born_only : (read image : Image) → ((n : ℕ) → ¬ IsComplete read.ranges n) → IsBornFrom read image → IsReopened read image
+is_born_only read image none born = record {
+  reopens = reopens_by read image born.bytes born.bears.ranges (λ n is. (born.bears.complete n).0 is) (λ is. born.bears.born);
+  incomplete = λ n is. none n ((born.bears.complete n).0 is);
+  born = born.bears.born;
+}
