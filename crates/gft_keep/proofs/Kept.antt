@@ -66,7 +66,7 @@ ready_stands keep ready exact = record {
 }
 
 -- what is told now came by the step
-read_from : (step : Image → Image → Type 0) (old new : DriveState) → Elapses old new → ReadsBy step old new → (image : Image) → new.contents ≡ Some image → (from : Image) × (old.contents ≡ Some from) × step from image
+pub read_from : (step : Image → Image → Type 0) (old new : DriveState) → Elapses old new → ReadsBy step old new → (image : Image) → new.contents ≡ Some image → (from : Image) × (old.contents ≡ Some from) × step from image
 read_from step old new time reads image told =
     let was = told_before old new image time.goes told in
     let last = reads was.0 was.1 in
