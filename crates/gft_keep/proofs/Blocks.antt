@@ -7,20 +7,22 @@ use Rattle.gft_range.specs.Words.{HasOffset, InRange, IsMissing, IsNormal, IsUni
 use Rattle.gft_range.proofs.Lemmas.{HasOffset-or, union_of}
 use Rattle.gft_drive.specs.declared.Part.TheVariants.{Bytes, Ranges}
 use Rattle.gft_drive.specs.declared.TheConstants.{MAX_RANGES}
-use Rattle.gft_drive.specs.Words.{Covers, DriveState, Elapses, Image, IsBorn, IsComplete, IsIntact, IsLawful, OnPart, ReadsBy}
+use Rattle.gft_drive.specs.Words.{Covers, DriveState, Elapses, Image, IsBorn, IsComplete, IsIntact, IsLawful, LeavesBy, OnPart, ReadsBy}
 use Rattle.gft_journal.specs.Words.{Becomes, BecomesOrNot, KeepsRest, SameJournal}
 use Rattle.gft_journal.specs.declared.Journal.{Journal}
 use Rattle.gft_keep.specs.declared.standing.Standing.{Standing}
-use Rattle.gft_keep.specs.declared.standing.Standing.TheVariants.{Whole}
+use Rattle.gft_keep.specs.declared.standing.Standing.TheVariants.{Whole, Torn}
 use Rattle.gft_keep.specs.Appending.{AddsAllBut, AddsFront, AddsMissing}
 use Rattle.gft_keep.specs.Image.{HasFewRanges, Holds, IsSound}
 use Rattle.gft_keep.specs.Keep.{IsExact, IsKeep, IsOpen, StandsAs, StandsWhole}
 use Rattle.gft_keep.specs.State.{KeepState}
 use Rattle.gft_keep.specs.Steps.{CompletesNothing, Stores, StoresSome, block_of}
-use Rattle.gft_keep.specs.Store.{IsNewCount}
-use Rattle.gft_keep.specs.Tearing.{HasFitUnion, StoresBlock, TornFrom, TornOpen, open_keep}
+use Rattle.gft_keep.specs.Store.{IsNewCount, Stored}
+use Rattle.gft_keep.specs.Tearing.{EachSince, HasFitUnion, StoresBlock, TornFrom, TornOpen, open_keep}
 use Rattle.gft_keep.specs.Writing.{Fills, FillsBlock, KeepsBytes}
 use Rattle.gft_keep.proofs.Changing.{sound_kept}
+use Rattle.gft_keep.proofs.Failing.{torn_is_keep}
+use Rattle.gft_keep.proofs.Running.{since_leaves, since_says}
 use Rattle.gft_keep.proofs.Fronts.{few_with, has_either}
 use Rattle.gft_keep.proofs.Images.{few_same, iff_refl, iff_then}
 use Rattle.gft_keep.proofs.Kept.{exact_read, read_from, ready_stands, stands_whole}
@@ -152,7 +154,7 @@ pub record IsStored (set : List Range) (block : Range) (bytes : List ℕ) (read 
   pub incomplete : (n : ℕ) → ¬ IsComplete image.ranges n
   pub born : IsBorn image.ranges
 
-Lacking : List Range → Range → ℕ → Type 0
+abbrev pub Lacking : List Range → Range → ℕ → Type 0
 Lacking set block x = InRange block x × ¬ HasOffset set x
 
 -- the missing offsets are named
@@ -185,9 +187,9 @@ module _ (set : List Range) (block : Range) (bytes : List ℕ) (fills : FillsBlo
       → NamesAlso set (HasOffset front) image
   front_named staged image front left takes intact missing ranges rest =
       let with = few_with set block front left normal few some fits missing in
-      let names = λ (x : ℕ). (
-        (λ (covered : Covers image.ranges x). ⊎_elim (λ was. inl ((takes.exact x).0 was)) (λ new. inr new) ((ranges x).0 covered)),
-        (λ (either : HasOffset set x ⊎ HasOffset front x). (ranges x).1 (⊎_elim (λ has. inl ((takes.exact x).1 has)) (λ new. inr new) either)),
+      let names : (x : ℕ) → Covers image.ranges x ↔ (HasOffset set x ⊎ HasOffset front x) = λ x. (
+        λ covered. ⊎_elim (λ was. inl ((takes.exact x).0 was)) (λ new. inr new) ((ranges x).0 covered),
+        λ either. (ranges x).1 (⊎_elim (λ has. inl ((takes.exact x).1 has)) (λ new. inr new) either),
       ) in
       record {
         names = names;
@@ -211,9 +213,9 @@ module _ (set : List Range) (block : Range) (bytes : List ℕ) (fills : FillsBlo
   pub is_appended : (read staged image : Image) → Written set block bytes read staged → OnPart Ranges (AddsMissing set block) staged image → IsStored set block bytes read image
   is_appended read staged image written step =
       let union = union_of set block normal some in
-      let names = λ (x : ℕ). (
-        (λ (covered : Covers image.ranges x). ⊎_elim (λ was. inl ((written.takes.exact x).0 was)) (λ new. inr new) ((step.changed.ranges x).0 covered)),
-        (λ (either : HasOffset set x ⊎ Lacking set block x). (step.changed.ranges x).1 (⊎_elim (λ has. inl ((written.takes.exact x).1 has)) (λ new. inr new) either)),
+      let names : (x : ℕ) → Covers image.ranges x ↔ (HasOffset set x ⊎ Lacking set block x) = λ x. (
+        λ covered. ⊎_elim (λ was. inl ((written.takes.exact x).0 was)) (λ new. inr new) ((step.changed.ranges x).0 covered),
+        λ either. (step.changed.ranges x).1 (⊎_elim (λ has. inl ((written.takes.exact x).1 has)) (λ new. inr new) either),
       ) in
       all_stored set block bytes fills read staged image written step.kept (record {
         names = names;
@@ -361,4 +363,41 @@ takes_blocks drive set journal is read told =
       exact = exact.ranges;
       incomplete = λ n now. let gone : None ≡ Some n = (exact.complete n).0 now in absurd (cc);
       born = exact.born.1 refl;
+    }
+
+abbrev range_to : ℕ → ℕ → Range
+range_to start end = record { start = start; end = end }
+
+pub block_is : (block : Range) (bytes : List ℕ) → FillsBlock block bytes → block_of block.start bytes ≡ block
+block_is block bytes fills = ap (λ (e : ℕ). range_to block.start e) fills.size
+
+-- a store that is done or not, over the set as the call has it
+module _ (old : KeepState) (set : List Range) (same : set ≡ old.ranges) (block : Range) (bytes : List ℕ) (is : IsOpen old) (drive : DriveState) (lawful : IsLawful drive)
+    (since : EachSince (TornOpen set block.start bytes) old.drive drive) where
+  pub store_leaves : LeavesBy (StoresSome block.start bytes) old.drive drive
+  store_leaves = since_leaves (TornOpen set block.start bytes) (StoresSome block.start bytes) old.drive drive is.unbroken.facts.lawful since (λ read image told torn.
+      open_stores set block.start bytes read image (subst (λ (rs : List Range). (x : ℕ) → Covers read.ranges x ↔ HasOffset rs x) (sym same) (exact_read old is.unbroken read told).ranges) torn)
+
+  pub store_broken : (journal : Journal) → IsKeep (state_with drive set old.complete old.is_born Torn journal)
+  store_broken journal =
+      let torn = since_says (TornOpen set block.start bytes) (TornFrom old.ranges block.start bytes) old.drive drive since (λ read image told now. subst (λ (rs : List Range). TornFrom rs block.start bytes read image) same now.torn) in
+      subst (λ (rs : List Range). IsKeep (state_with drive rs old.complete old.is_born Torn journal)) (sym same) (torn_is_keep old drive journal block.start bytes is.unbroken.facts lawful torn)
+
+-- a keep that takes blocks, over the set as the call has it
+pub open_with : (keep : KeepState) (set : List Range) → set ≡ keep.ranges → IsOpen keep → IsOpen (open_keep keep.drive set keep.journal)
+open_with keep set same is = subst (λ (rs : List Range). IsOpen (open_keep keep.drive rs keep.journal)) (sym same) (open_is_open keep is)
+
+-- what is answered of a block
+pub block_stored : (old : KeepState) (set union : List Range) (block : Range) (bytes : List ℕ) (answer : ℕ) (drive : DriveState) (journal last : Journal) → set ≡ old.ranges → IsOpen old → FillsBlock block bytes
+    → StoresBlock set block bytes last old.drive drive answer → IsUnion set block union → drive.faults ≡ old.drive.faults → Stored old (state_with drive union old.complete old.is_born old.standing journal) block.start bytes answer
+block_stored old set union block bytes answer drive journal last same is fills stores is_union faults =
+    let block_same = sym (block_is block bytes fills) in
+    record {
+      whole = is.unbroken.whole;
+      read = stores.read;
+      union = subst (λ (b : Range). IsUnion old.ranges b union) block_same (subst (λ (rs : List Range). IsUnion rs block union) same is_union);
+      count = subst (λ (b : Range). IsNewCount old.ranges b answer) block_same (subst (λ (rs : List Range). IsNewCount rs block answer) same stores.count);
+      complete = refl;
+      is_born = refl;
+      faults = faults;
     }

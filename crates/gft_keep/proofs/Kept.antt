@@ -17,6 +17,7 @@ use Rattle.gft_keep.specs.Keep.{IsEmptying, IsExact, IsKeep, IsUnbroken, MovesBy
 use Rattle.gft_keep.specs.State.{KeepState}
 use Rattle.gft_keep.specs.Steps.{Empties, Finishes, IsEmpty, Reopens, StaysHeld}
 use Rattle.gft_keep.specs.Tearing.{EachSince, NamesSet, TornFrom}
+use Rattle.gft_keep.specs.Writing.{AreThere}
 use Rattle.gft_keep.proofs.Failing.{exact_holds, torn_is_keep, torn_keep}
 use Rattle.gft_keep.proofs.Images.{iff_then}
 use Rattle.gft_keep.proofs.Running.{ready_exact, since_leaves, since_now, since_says}
@@ -171,3 +172,7 @@ pub broken_is_keep : (step : Image → Image → Type 0) (old : KeepState) (driv
     → EachSince (Soundly step) old.drive drive → IsKeep (torn_keep old drive journal)
 broken_is_keep step old drive journal stays is lawful since = torn_is_keep old drive journal 0 [] is.facts lawful
     (since_says (Soundly step) (TornFrom old.ranges 0 []) old.drive drive since (λ read image told now. stays_torn old read image (exact_read old is read told) (stays read image now.done) now.sound))
+
+-- the file has what is kept
+pub keep_there : (keep : KeepState) → IsUnbroken keep → AreThere keep.ranges keep.drive
+keep_there keep is read told x has = let exact = exact_read keep is read told in exact.sound.within x ((exact.ranges x).1 has)
