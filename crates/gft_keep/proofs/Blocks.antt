@@ -14,16 +14,18 @@ use Rattle.gft_keep.specs.declared.standing.Standing.{Standing}
 use Rattle.gft_keep.specs.declared.standing.Standing.TheVariants.{Whole, Torn}
 use Rattle.gft_keep.specs.Appending.{AddsAllBut, AddsFront, AddsMissing}
 use Rattle.gft_keep.specs.Image.{HasFewRanges, Holds, IsSound}
-use Rattle.gft_keep.specs.Keep.{IsExact, IsKeep, IsOpen, StandsAs, StandsWhole}
+use Rattle.gft_keep.specs.Keep.{IsExact, IsKeep, IsOpen, MovesBy, StandsAs, StandsWhole}
 use Rattle.gft_keep.specs.State.{KeepState}
 use Rattle.gft_keep.specs.Steps.{CompletesNothing, Stores, StoresSome, block_of}
 use Rattle.gft_keep.specs.Store.{IsNewCount, Stored}
 use Rattle.gft_keep.specs.Tearing.{EachSince, HasFitUnion, StoresBlock, TornFrom, TornOpen, open_keep}
 use Rattle.gft_keep.specs.Writing.{Fills, FillsBlock, KeepsBytes}
 use Rattle.gft_keep.proofs.Changing.{sound_kept}
+use Rattle.gft_drive.proofs.Lemmas.{elapses_refl}
+use Rattle.gft_keep.proofs.Counts.{nothing_missing}
 use Rattle.gft_keep.proofs.Failing.{torn_is_keep}
 use Rattle.gft_keep.proofs.Running.{since_leaves, since_says}
-use Rattle.gft_keep.proofs.Fronts.{few_with, has_either}
+use Rattle.gft_keep.proofs.Fronts.{few_with, has_either, one_more_range}
 use Rattle.gft_keep.proofs.Images.{few_same, iff_refl, iff_then}
 use Rattle.gft_keep.proofs.Kept.{exact_read, read_from, ready_stands, stands_whole}
 use Rattle.gft_keep.proofs.Stages.{IsStart, Stage}
@@ -401,3 +403,37 @@ block_stored old set union block bytes answer drive journal last same is fills s
       is_born = refl;
       faults = faults;
     }
+
+-- ---- nothing is missing, or nothing is done
+
+stores_none : (offset : ℕ) (bytes : List ℕ) (image : Image) → StoresSome offset bytes image image
+stores_none offset bytes image = record {
+  kept = λ x v holds. holds;
+  added = λ x covered. inl covered;
+  completes = record { complete = λ len is. (is, refl); unborn = λ not. (not, refl) };
+}
+
+pub stays_open : (keep : KeepState) (offset : ℕ) (bytes : List ℕ) → IsOpen keep → MovesBy (StoresSome offset bytes) keep keep
+stays_open keep offset bytes is = record {
+  keep = is.unbroken.facts;
+  any_moment = λ some image left. (image, left, stores_none offset bytes image);
+  time = elapses_refl keep.drive;
+}
+
+pub already_stored : (keep : KeepState) (offset : ℕ) (bytes : List ℕ) → IsOpen keep → ((x : ℕ) → InRange (block_of offset bytes) x → HasOffset keep.ranges x) → Stored keep keep offset bytes 0
+already_stored keep offset bytes is covered = record {
+  whole = is.unbroken.whole;
+  read = λ read told. (read, told, record {
+    some = stores_none offset bytes read;
+    all = λ x inside. inl (((exact_read keep is.unbroken read told).ranges x).1 (covered x inside));
+  });
+  union = record { normal = is.unbroken.facts.normal; offsets = λ x. (λ has. inl has, λ either. elim either [ inl had ↦ had | inr here ↦ covered x here ]) };
+  count = λ missing gone. nothing_missing keep.ranges (block_of offset bytes) missing gone covered;
+  complete = refl;
+  is_born = refl;
+  faults = refl;
+}
+
+-- fewer ranges than may be kept have room for one more
+pub fits_below : (set : List Range) (block : Range) → length set ≤ MAX_RANGES → (length set ≡ MAX_RANGES → ⊥) → HasFitUnion set block
+fits_below set block few not_full union is = let most = one_more_range set block union is in omega (arith, few, not_full, most)
