@@ -423,10 +423,14 @@ stays_open keep offset bytes is = record {
 pub already_stored : (keep : KeepState) (offset : ℕ) (bytes : List ℕ) → IsOpen keep → ((x : ℕ) → InRange (block_of offset bytes) x → HasOffset keep.ranges x) → Stored keep keep offset bytes 0
 already_stored keep offset bytes is covered = record {
   whole = is.unbroken.whole;
-  read = λ read told. (read, told, record {
-    some = stores_none offset bytes read;
-    all = λ x inside. inl (((exact_read keep is.unbroken read told).ranges x).1 (covered x inside));
-  });
+  read = λ read told. (
+    read,
+    told,
+    record {
+      some = stores_none offset bytes read;
+      all = λ x inside. inl (((exact_read keep is.unbroken read told).ranges x).1 (covered x inside));
+    },
+  );
   union = record { normal = is.unbroken.facts.normal; offsets = λ x. (λ has. inl has, λ either. elim either [ inl had ↦ had | inr here ↦ covered x here ]) };
   count = λ missing gone. nothing_missing keep.ranges (block_of offset bytes) missing gone covered;
   complete = refl;

@@ -33,17 +33,21 @@ module _ (old new : DriveState) (lawful : IsLawful new) (rests : Rests old new) 
 
 -- each image stays, and the keep is broken
 stays_broken : (old new : KeepState) (s : Standing) → new.ranges ≡ old.ranges → IsLawful new.drive → Rests old.drive new.drive → StandsAs s old → StandsAs (once_failed s) new
-stays_broken old new Whole same lawful rests stands = (0, [], λ some image left.
-    let was = told_then old.drive new.drive lawful rests some in
-    let is = stands.each was image (rested old.drive new.drive lawful rests some image left) in
-    record {
-      sound = is.sound;
-      kept = λ read told x has.
-          let now = stands.each was read (rested old.drive new.drive lawful rests some read (lawful.read read told)) in
-          let one : image ≡ read = cc (is.read, now.read) in
-          subst (λ (i : Image). Holds i x (slice_index read.bytes x)) (sym one) (exact_holds old read now x (subst (λ (set : List Range). HasOffset set x) same has));
-      added = λ x covered. inl (subst (λ (set : List Range). HasOffset set x) (sym same) ((is.ranges x).0 covered));
-    })
+stays_broken old new Whole same lawful rests stands = (
+  0,
+  [],
+  λ some image left.
+      let was = told_then old.drive new.drive lawful rests some in
+      let is = stands.each was image (rested old.drive new.drive lawful rests some image left) in
+      record {
+        sound = is.sound;
+        kept = λ read told x has.
+            let now = stands.each was read (rested old.drive new.drive lawful rests some read (lawful.read read told)) in
+            let one : image ≡ read = cc (is.read, now.read) in
+            subst (λ (i : Image). Holds i x (slice_index read.bytes x)) (sym one) (exact_holds old read now x (subst (λ (set : List Range). HasOffset set x) same has));
+        added = λ x covered. inl (subst (λ (set : List Range). HasOffset set x) (sym same) ((is.ranges x).0 covered));
+      },
+)
 stays_broken old new Emptying same lawful rests stands = λ some image left.
     let was = told_then old.drive new.drive lawful rests some in
     let is = stands was image (rested old.drive new.drive lawful rests some image left) in
@@ -51,20 +55,24 @@ stays_broken old new Emptying same lawful rests stands = λ some image left.
       sound = is.sound;
       either = ⊎_elim (λ none. inl none) (λ kept. inr (λ x has. kept x (subst (λ (set : List Range). HasOffset set x) same has))) is.either;
     }
-stays_broken old new Torn same lawful rests stands = (stands.0, stands.1, λ some image left.
-    let was = told_then old.drive new.drive lawful rests some in
-    let each = λ (i : Image) (may : MayLeave new.drive i). stands.2 was i (rested old.drive new.drive lawful rests some i may) in
-    let before = told_some old.drive.contents was in
-    let is = each image left in
-    record {
-      sound = is.sound;
-      kept = λ read told x has.
-          let had = subst (λ (set : List Range). HasOffset set x) same has in
-          let here = is.kept before.0 before.1 x had in
-          let there = (each read (lawful.read read told)).kept before.0 before.1 x had in
-          record { covered = here.covered; within = here.within; byte = here.byte ∙ sym there.byte };
-      added = λ x covered. ⊎_elim (λ had. inl (subst (λ (set : List Range). HasOffset set x) (sym same) had)) (λ block. inr block) (is.added x covered);
-    })
+stays_broken old new Torn same lawful rests stands = (
+  stands.0,
+  stands.1,
+  λ some image left.
+      let was = told_then old.drive new.drive lawful rests some in
+      let each = λ (i : Image) (may : MayLeave new.drive i). stands.2 was i (rested old.drive new.drive lawful rests some i may) in
+      let before = told_some old.drive.contents was in
+      let is = each image left in
+      record {
+        sound = is.sound;
+        kept = λ read told x has.
+            let had = subst (λ (set : List Range). HasOffset set x) same has in
+            let here = is.kept before.0 before.1 x had in
+            let there = (each read (lawful.read read told)).kept before.0 before.1 x had in
+            record { covered = here.covered; within = here.within; byte = here.byte ∙ sym there.byte };
+        added = λ x covered. ⊎_elim (λ had. inl (subst (λ (set : List Range). HasOffset set x) (sym same) had)) (λ block. inr block) (is.added x covered);
+      },
+)
 
 -- a keep whose attaching again failed
 abbrev pub failed_keep : KeepState → DriveState → KeepState
@@ -112,17 +120,21 @@ torn_is_keep old drive journal offset bytes keep lawful since = record {
   few = keep.few;
   in_limit = keep.in_limit;
   complete = keep.complete;
-  stands = (offset, bytes, λ some image left.
-      let was = told_some old.drive.contents (since.time.goes.tells.0 some) in
-      let is = since_now (TornFrom old.ranges offset bytes) old.drive drive lawful since was.0 image was.1 left in
-      record {
-        sound = is.sound;
-        kept = λ read told x has.
-            let there = since_now (TornFrom old.ranges offset bytes) old.drive drive lawful since was.0 read was.1 (lawful.read read told) in
-            let here = is.kept x has in
-            record { covered = here.covered; within = here.within; byte = here.byte ∙ sym (there.kept x has).byte };
-        added = is.added;
-      });
+  stands = (
+    offset,
+    bytes,
+    λ some image left.
+        let was = told_some old.drive.contents (since.time.goes.tells.0 some) in
+        let is = since_now (TornFrom old.ranges offset bytes) old.drive drive lawful since was.0 image was.1 left in
+        record {
+          sound = is.sound;
+          kept = λ read told x has.
+              let there = since_now (TornFrom old.ranges offset bytes) old.drive drive lawful since was.0 read was.1 (lawful.read read told) in
+              let here = is.kept x has in
+              record { covered = here.covered; within = here.within; byte = here.byte ∙ sym (there.kept x has).byte };
+          added = is.added;
+        },
+  );
 }
 
 pub none_told : (contents : Option Image) → ((read : Image) → contents ≡ Some read → ⊥) → contents ≡ None

@@ -102,7 +102,6 @@ fills_all set block bytes left none old new holds writing =
       reaches = λ k lt out. (written k lt out).1;
     }
 
-
 pub keeps_none : (set : List Range) (file : List ℕ) → KeepsBytes set file file
 keeps_none set file = record { kept = λ x has lt. refl; longer = omega arith }
 
