@@ -1,9 +1,11 @@
 -- What images stand for.
-use Rattle.std.proofs.Common.{◌≡◌, ◌⊎◌, ◌↔◌, inl, inr, ⊎_elim, ℕ, ◌-◌, ◌<◌, ◌≤◌, List, length, Err, refl, sym, ap, ◌∙◌, subst, arith}
+use Rattle.std.proofs.Common.{◌≡◌, ◌⊎◌, ◌↔◌, inl, inr, ⊎_elim, ℕ, ◌-◌, ◌<◌, ◌≤◌, List, [], length, Err, refl, sym, ap, ◌∙◌, subst, arith}
+use Rattle.std.specs.Prelude.{slice_index}
 use Rattle.gft_range.specs.declared.Range.{Range}
 use Rattle.gft_range.specs.Words.{HasOffset}
 use Rattle.gft_range.proofs.Lemmas.{one_list}
-use Rattle.gft_drive.specs.Words.{Covers, Image, IsComplete}
+use Rattle.gft_drive.specs.declared.TheConstants.{RANGES_LEN}
+use Rattle.gft_drive.specs.Words.{Covers, Image, IsComplete, bank_at, first_layout, selected, slot, slot_at}
 use Rattle.gft_journal.specs.Words.{FirstDamage, HasAttachCause}
 use Rattle.gft_journal.specs.declared.AttachError.{AttachError}
 use Rattle.gft_journal.specs.declared.AttachError.TheVariants.{Failed, OutOfMemory, Damaged}
@@ -64,3 +66,16 @@ pub counts_fault : {T : Type 0} (error : AttachError) (before now : ℕ) → Has
 counts_fault Failed before now cause = cause.failed refl
 counts_fault OutOfMemory before now cause = cause.kept (λ is. absurd (cc))
 counts_fault (Damaged damage) before now cause = cause.kept (λ is. absurd (cc))
+
+-- the part of a new drive names nothing
+module _ (image : Image) (size : length image.ranges ≡ RANGES_LEN) (zeros : (x : ℕ) → slice_index image.ranges x ≡ 0) where
+  all_shut : (i : ℕ) → (slot image.ranges (selected image.ranges) i).gate ≡ 1 → ⊥
+  all_shut i is_open = omega (arith, is_open, zeros (slot_at first_layout (bank_at (selected image.ranges)) i))
+
+  pub blank_sound : IsSound image
+  blank_sound = record {
+    intact = record { size = size; version = omega (arith, zeros (bank_at (selected image.ranges))); slots = λ i lt gate. absurd (all_shut i gate) };
+    few = record { set = []; normal = tt; offsets = λ x. (λ has. absurd has, λ covered. absurd (all_shut covered.0 covered.2.0)); few = omega arith };
+    within = λ x covered. absurd (all_shut covered.0 covered.2.0);
+    complete = λ len is. absurd (all_shut is.0 is.2.0);
+  }

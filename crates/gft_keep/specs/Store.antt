@@ -51,7 +51,8 @@ ShowsRefusal old new block Failed = Rose old.drive.faults new.drive.faults × (n
 ShowsRefusal old new block other = Unit {0}
 
 -- the block is refused, and what was kept is; only a failed drive changes anything
-pub record Refused (unchanged : Type 0) (old new : KeepState) (block : Range) (error : KeepError) : Type 0 where
+pub record Refused (unchanged : Type 0) (old new : KeepState) (block : Range) (error : KeepError)
+    : Type 0 where
   pub shows : ShowsRefusal old new block error
   pub same : SameKept old new
   pub kept : error ≢ Failed → unchanged

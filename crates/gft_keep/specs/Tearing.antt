@@ -1,5 +1,6 @@
 -- What each image is since a call on a whole keep began, by what a read gave then.
-use Rattle.std.specs.Prelude.{◌≡◌, ◌⊎◌, ◌↔◌, ◌<◌, ◌≤◌, ℕ, ◌-◌, ◌+◌, List, Some, None, true, length, slice_index}
+use Rattle.std.specs.Prelude.{◌≡◌, ◌⊎◌, ◌↔◌, ◌<◌, ◌≤◌, ℕ, ◌-◌}
+use Rattle.std.specs.Prelude.{◌+◌, List, Some, None, true, length, slice_index}
 use Rattle.gft_base.specs.declared.TheConstants.{LIMIT}
 use Rattle.gft_range.specs.declared.Range.{Range}
 use Rattle.gft_range.specs.Words.{HasOffset, InRange, IsUnion}

@@ -7,6 +7,7 @@
 
 mod error;
 mod keep;
+mod laws;
 mod opening;
 mod standing;
 mod storing;
@@ -18,4 +19,5 @@ mod writing;
 pub use error::KeepError;
 pub use gft_journal::{AttachError, Damage};
 pub use keep::Keep;
+pub use laws::sound_images_have_no_damage;
 pub use standing::Standing;

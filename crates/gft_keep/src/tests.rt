@@ -1,5 +1,5 @@
 ghost use Rattle.std.specs.Prelude.{◌≡◌, IfOk, OnOk};
-ghost use Rattle.gft_keep.specs.Keep.{IsOpen, IsUnbroken};
+ghost use Rattle.gft_keep.specs.Keep.{IsKeep, IsOpen, IsUnbroken};
 ghost use Rattle.gft_keep.specs.Of.{keep_of};
 ghost use Rattle.gft_keep.specs.State.{IsWhole};
 
@@ -46,7 +46,8 @@ fn resumed<D: Drive + Drop>(alloc: Global, drive: D) -> Result<Keep<D>, D>
 /// Stores a block that is one.
 fn put<D: Drive + Drop>(keep: &mut Keep<D>, offset: u64, bytes: &[u8]) -> Result<u64, KeepError>
     requires { IsOpen (keep_of D.state keep.old) }
-    ensures { OnOk result (IsOpen (keep_of D.state keep.new)) }
+    ensures open { OnOk result (IsOpen (keep_of D.state keep.new)) }
+    ensures keep { IsKeep (keep_of D.state keep.new) }
 {
     if bytes.is_empty() || offset > LIMIT || bytes.len() as u64 > LIMIT - offset {
         return Err(KeepError::OutOfMemory);
@@ -247,13 +248,10 @@ fn only_what_is_missing_is_written(rt: HostRuntime) -> Result<(), Fail> {
     let Ok(mut keep) = begun(rt.alloc(), made(rt.alloc(), u32::MAX, &[])?) else {
         panic!(rt; "nothing fails");
     };
-    for (offset, bytes, count) in [
-        (0, b"HELLO".as_slice(), 5),
-        (0, b"helloX", 1),
-        (0, b"HEL", 0),
-    ] {
-        assert_eq!(rt; put(&mut keep, offset, bytes), Ok(count), "at {count}");
-    }
+    let first = put(&mut keep, 0, b"HELLO")?;
+    let second = put(&mut keep, 0, b"helloX")?;
+    let third = put(&mut keep, 0, b"HEL")?;
+    assert_eq!(rt; [first, second, third], [5, 1, 0]);
     let drive = keep.into_drive();
     assert_eq!(rt; drive.bytes(), b"HELLOX".as_slice());
     // a write and a sync for each, four calls of the journal, and none for the last
@@ -322,7 +320,7 @@ fn older_longer_data_is_gone(rt: HostRuntime) -> Result<(), Fail> {
     let Ok(mut keep) = resumed(rt.alloc(), old) else {
         panic!(rt; "nothing fails");
     };
-    has(&rt, &mut keep, &[range(0, 20)], TWENTY)?;
+    assert_eq!(rt; keep.ranges().as_slice(), [range(0, 20)].as_slice());
     assert!(rt; keep.completed().is_none() && keep.born() && !keep.broken());
     assert_eq!(rt; put(&mut keep, 18, b"IJKL"), Ok(2));
     let mut done = 0;
@@ -331,9 +329,8 @@ fn older_longer_data_is_gone(rt: HostRuntime) -> Result<(), Fail> {
     let Ok(mut keep) = opened(rt.alloc(), drive) else {
         panic!(rt; "nothing fails");
     };
-    has(&rt, &mut keep, &[range(0, 5)], b"hello")?;
     assert_eq!(rt; keep.completed(), Some(5));
-    assert_eq!(rt; keep.size(), Ok(5));
+    has(&rt, &mut keep, &[range(0, 5)], b"hello")?;
     Ok(())
 }
 
@@ -427,8 +424,20 @@ fn a_full_bank_changes_over_to_the_union(rt: HostRuntime) -> Result<(), Fail> {
     let Ok(mut keep) = opened(rt.alloc(), drive) else {
         panic!(rt; "nothing fails");
     };
-    has(&rt, &mut keep, &[range(0, 20)], FILLED)?;
     assert_eq!(rt; keep.journal.slots_left(), 65_532);
+    assert_eq!(rt; keep.size(), Ok(20));
+    Ok(())
+}
+
+#[test]
+fn what_was_kept_stays_over_a_change_of_banks(rt: HostRuntime) -> Result<(), Fail> {
+    let (mut left, mut stored) = (None, false);
+    let drive = made(rt.alloc(), u32::MAX, &[])?;
+    let drive = fill(rt.alloc(), drive, &mut left, &mut stored);
+    let Ok(mut keep) = opened(rt.alloc(), drive) else {
+        panic!(rt; "nothing fails");
+    };
+    has(&rt, &mut keep, &[range(0, 20)], FILLED)?;
     Ok(())
 }
 
