@@ -1,18 +1,12 @@
 -- How a file changes while the missing parts of a block are written.
-use Rattle.std.proofs.Common.{◌≡◌, ℕ, ◌+◌, ◌-◌, ◌<◌, ◌≤◌, ◌⊎◌, ◌↔◌, List, [], ◌∷◌, length, take, drop, refl, sym, ap, ◌∙◌, subst, arith, inl, inr, length-drop, Bool, true, false, Result, Ok, Err, OnOk, IsErr, IsTrue}
+use Rattle.std.proofs.Common.{◌≡◌, ℕ, ◌+◌, ◌-◌, ◌<◌, ◌≤◌, ◌⊎◌, List, [], ◌∷◌, length, take, drop, refl, sym, ap, ◌∙◌, subst, arith, inl, inr, length-drop}
 use Rattle.std.specs.Prelude.{slice_index}
 use Rattle.std.proofs.lemmas.Bool.{cases_lt}
 use Rattle.std.proofs.lemmas.List.{length-take-le, get_or-take, get_or-drop}
 use Rattle.gft_range.specs.declared.Range.{Range}
 use Rattle.gft_range.specs.Words.{InRange, HasOffset, IsNormal, IsMissing}
-use Rattle.gft_drive.specs.Words.{DriveState, Image, Goes, Reads, Written, CutTo}
-use Rattle.gft_drive.proofs.Lemmas.{told_before}
-use Rattle.gft_drive.specs.declared.Part.TheVariants.{Bytes}
-use Rattle.gft_keep.specs.Holds.{HoldsAll, Holds}
-use Rattle.gft_keep.specs.Calls.{Finished, Finishes}
-use Rattle.gft_keep.specs.State.{KeepState}
-use Rattle.gft_keep.specs.Store.{Stores}
-use Rattle.gft_keep.specs.Writing.{AreLeft, Writing}
+use Rattle.gft_drive.specs.Words.{Torn, Written}
+use Rattle.gft_keep.specs.Writing.{AreLeft, Fills, HoldsAll, KeepsBytes, Writing}
 
 pub left_at_first : (set : List Range) (block : Range) (missing : List Range) → IsMissing set block missing → AreLeft set block missing
 left_at_first set block missing is = record { normal = is.normal; within = λ x has. (is.offsets x).0 has }
@@ -93,8 +87,8 @@ writing_more set block bytes left q rest part are first sized is old now new wri
     }
 
 -- all parts are written
-pub stores_all : (set : List Range) (block : Range) (bytes : List ℕ) (left : List Range) → left ≡ [] → (old new : List ℕ) → HoldsAll set old → Writing set block bytes left old new → Stores set block bytes old new
-stores_all set block bytes left none old new holds writing =
+pub fills_all : (set : List Range) (block : Range) (bytes : List ℕ) (left : List Range) → left ≡ [] → (old new : List ℕ) → HoldsAll set old → Writing set block bytes left old new → Fills set block bytes old new
+fills_all set block bytes left none old new holds writing =
     let P : (ℕ → List Range → Type 0) = λ x rs. HasOffset rs x in
     let longer = writing.longer in
     let written = λ (k : ℕ) (lt : k < length bytes) (out : ¬ HasOffset set (block.start + k)). elim (writing.added k lt out) as (λ _. (slice_index new (block.start + k) ≡ slice_index bytes k) × (block.start + k < length new)) [
@@ -108,70 +102,21 @@ stores_all set block bytes left none old new holds writing =
       reaches = λ k lt out. (written k lt out).1;
     }
 
--- nothing of the block is missing
-pub stores_nothing : (set : List Range) (block : Range) (bytes file : List ℕ) → block.start + length bytes ≡ block.end → ((x : ℕ) → InRange block x → HasOffset set x) → HoldsAll set file → Stores set block bytes file file
-stores_nothing set block bytes file sized covered holds = record {
-  kept = λ x had. refl;
-  added = λ k lt out. absurd (out (covered (block.start + k) (omega arith, omega arith)));
-  size = holds;
-  reaches = λ k lt out. absurd (out (covered (block.start + k) (omega arith, omega arith)));
-}
+pub keeps_none : (set : List Range) (file : List ℕ) → KeepsBytes set file file
+keeps_none set file = record { kept = λ x has lt. refl; longer = omega arith }
 
--- what is stored is there
-pub HoldsAll-stored : (set : List Range) (block : Range) (bytes old new : List ℕ) (union : List Range) → block.start + length bytes ≡ block.end → ((x : ℕ) → HasOffset set x ⊎ ¬ HasOffset set x)
-    → ((x : ℕ) → HasOffset union x ↔ (HasOffset set x ⊎ InRange block x)) → Stores set block bytes old new → HoldsAll union new
-HoldsAll-stored set block bytes old new union sized known offsets stores x has =
-    elim ((offsets x).0 has) [
-      | inl had ↦ stores.size x had
-      | inr here ↦ elim (known x) [
-        | inl had ↦ stores.size x had
-        | inr out ↦
-            let k = x - block.start in
-            let back : block.start + k ≡ x = omega arith in
-            let there = stores.reaches k (omega arith) (λ had. out (subst (λ (y : ℕ). HasOffset set y) back had)) in
-            omega arith
-      ]
-    ]
-
--- a file that has each offset below len is at least so long
-pub length-from_exact : (set : List Range) (file : List ℕ) (len : ℕ) → HoldsAll set file → ((x : ℕ) → HasOffset set x ↔ (x < len)) → len ≤ length file
-length-from_exact set file len holds exact =
-    elim (cases_lt 0 len) [ inl some ↦ let last = holds (len - 1) ((exact (len - 1)).1 (omega arith)) in omega arith | inr none ↦ omega arith ]
-
-is_false : (b : Bool) → (b ≡ true → ⊥) → b ≡ false
-is_false true no_more = absurd (no_more refl)
-is_false false no_more = refl
-
--- a cut to the length up to which all is kept leaves so many bytes
-pub cut_finishes : {T E : Type 0} (result : Result T E) (len : ℕ) (old new : KeepState) → Holds old.ranges old.drive → ((x : ℕ) → HasOffset old.ranges x ↔ (x < len))
-    → new.ranges ≡ old.ranges → (IsTrue new.is_broken ↔ IsErr result) → Goes old.drive new.drive → OnOk result (Reads Bytes (CutTo len) old.drive new.drive) → OnOk result (Finished len old new)
-cut_finishes (Ok done) len old new holds exact same broken goes cut =
-    let read : Reads Bytes (Finishes len) old.drive new.drive = λ from told.
-    let there = cut from told in (
-      there.0,
-      there.1,
-      record {
-        changed = record { left = there.2.changed; size = ap length there.2.changed ∙ length-take-le len from.bytes (length-from_exact old.ranges from.bytes len (holds from told) exact) };
-        kept = there.2.kept;
-      },
-    ) in
+-- a write of a missing part, done or not
+pub keeps_more : (set : List Range) (block : Range) (left : List Range) (q : Range) (rest : List Range) (n : ℕ) → AreLeft set block left → left ≡ q ∷ rest → q.start + n ≡ q.end
+    → (old now new : List ℕ) → KeepsBytes set old now → Torn q.start n now new → KeepsBytes set old new
+keeps_more set block left q rest n are first size old now new keeps torn =
+    let P : (ℕ → List Range → Type 0) = λ x rs. HasOffset rs x in
     record {
-      whole = is_false new.is_broken (λ broke. let failed = broken.0 broke in cc);
-      ranges = same;
-      read = read;
-      holds = λ image told x had.
-          let before = told_before old.drive new.drive image goes told in
-          let there = read before.0 before.1 in
-          let is : there.0 ≡ image = cc (there.1, told) in
-          let below : x < len = (exact x).0 (subst (λ (set : List Range). HasOffset set x) same had) in
-          subst (λ (i : Image). x < length i.bytes) is (omega (arith, there.2.changed.size, below));
+      kept = λ x had lt. elim (cases_lt x q.start) [
+        | inl below ↦ torn.before x (omega (arith, lt, keeps.longer)) below ∙ keeps.kept x had lt
+        | inr above ↦ elim (cases_lt x q.end) [
+          | inl here ↦ absurd ((are.within x (subst (P x) (sym first) (inl (above, here)))).1 had)
+          | inr past ↦ torn.after x (omega (arith, lt, keeps.longer)) (omega (arith, past, size)) ∙ keeps.kept x had lt
+        ]
+      ];
+      longer = omega (arith, keeps.longer, torn.no_shorter);
     }
-cut_finishes (Err failed) len old new holds exact same broken goes cut = tt
-
-pub Holds-stored : (set : List Range) (block : Range) (bytes : List ℕ) (old new : DriveState) (union : List Range) → block.start + length bytes ≡ block.end → ((x : ℕ) → HasOffset set x ⊎ ¬ HasOffset set x)
-    → ((x : ℕ) → HasOffset union x ↔ (HasOffset set x ⊎ InRange block x)) → Goes old new → Reads Bytes (Stores set block bytes) old new → Holds union new
-Holds-stored set block bytes old new union sized known offsets goes stored image told =
-    let before = told_before old new image goes told in
-    let there = stored before.0 before.1 in
-    let same : there.0 ≡ image = cc (there.1, told) in
-    subst (λ (i : Image). HoldsAll union i.bytes) same (HoldsAll-stored set block bytes before.0.bytes there.0.bytes union sized known offsets there.2.changed)
