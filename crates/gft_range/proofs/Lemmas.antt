@@ -2,4 +2,4 @@
 pub use Rattle.gft_range.proofs.ListLemmas.{IsList-few, IsList-one}
 pub use Rattle.gft_range.proofs.NormalLemmas.{one_list}
 pub use Rattle.gft_range.proofs.OffsetLemmas.{HasOffset-or}
-pub use Rattle.gft_range.proofs.UnionLemmas.{union_of}
+pub use Rattle.gft_range.proofs.UnionLemmas.{normal_few, union_of}
