@@ -1,5 +1,5 @@
 -- How what is to come changes as a channel takes bytes.
-use Rattle.std.proofs.Common.{◌≡◌, ℕ, ◌+◌, ◌-◌, ◌<◌, ◌≤◌, Bool, true, false, cond, ltb, ◌&&◌, List, [], ◌∷◌, ◌++◌, length, take, drop, Option, Some, None, append_assoc, refl, sym, ap, ◌∙◌, subst, arith, length-append, length-drop, is_some, add-zero}
+use Rattle.std.proofs.Common.{◌≡◌, ℕ, inl, ◌+◌, ◌-◌, ◌<◌, ◌≤◌, Bool, true, false, cond, ltb, ◌&&◌, List, [], ◌∷◌, ◌++◌, length, take, drop, Option, Some, None, append_assoc, refl, sym, ap, ◌∙◌, subst, arith, length-append, length-drop, is_some, add-zero}
 use Rattle.std.proofs.Math.Seq.{drop-append-add, take-add}
 use Rattle.std.proofs.lemmas.List.{length-take-le, take_all}
 use Rattle.std.proofs.lemmas.Bool.{lt-ltb, ltb-false, or_parts}
@@ -19,7 +19,7 @@ use Rattle.gft_eblock.specs.Arrivals.{data_at, data_then, end_or, refusal, good_
 use Rattle.gft_eblock.specs.Channel.{Reader, HasFailed, refusal_of, to_come_in, to_come, wanted_in, IsDoneState, IsSoundState}
 use Rattle.gft_eblock.specs.Feeding.{Advances, Fails, IsEventOf, event_arrivals}
 use Rattle.gft_eblock.proofs.BlockLemmas.{data_then-append, data_then-zero, blocks_from-append}
-use Rattle.gft_eblock.proofs.ToComeLemmas.{to_come-nothing}
+use Rattle.gft_eblock.proofs.ToComeLemmas.{behind_of, to_come-nothing}
 
 -- ---- data
 
@@ -110,6 +110,7 @@ header_waits shift taken taken' used bytes bytes' piece le short fits grown sum 
       used = fits;
       taken = sum;
       quiet = λ none. to_come-nothing (record { shift = shift; taken = taken'; header = bytes'; state = Header }) waits;
+      behind = inl (to_come-nothing (record { shift = shift; taken = taken'; header = bytes'; state = Header }) waits);
       carried = λ later. rw (grown, sum) (subst (λ n. to_come_in Header shift taken bytes (take used piece ++ later) ≡ to_come_in Header shift (taken + n) (bytes ++ take used piece) later) len
           (header_more shift taken bytes (take used piece) later le));
       event = waits;
@@ -128,15 +129,16 @@ whole_at shift taken used bytes piece later h le fits full is =
 pub header_opens : (shift taken taken' used : ℕ) (bytes piece : List ℕ) (h : header.Header) (event : Option Event) (state : State) → length bytes ≤ taken → used ≤ length piece → length bytes + used ≡ HEADER_LEN → h ≡ header_of (bytes ++ take used piece) → taken' ≡ taken + used
     → is_bad shift h ≡ false
     → ((taken : ℕ) (later : List ℕ) → good_block shift h later (blocks_from shift (taken + h.count) (drop h.count later)) ≡ event_arrivals event ++ to_come_in state shift taken [] later)
-    → IsEventOf event state []
+    → IsEventOf event state [] → ((taken : ℕ) → IsSoundState state taken [])
     → Advances (record { shift = shift; taken = taken; header = bytes; state = Header }) piece (record { used = used; event = event }) (record { shift = shift; taken = taken'; header = []; state = state })
-header_opens shift taken taken' used bytes piece h event state le fits full is sum good opened is_event =
+header_opens shift taken taken' used bytes piece h event state le fits full is sum good opened is_event sound =
     record {
       used = fits;
       taken = sum;
       carried = λ later. rw sum (whole_at shift taken used bytes piece later h le fits full is ∙ rw good (opened (taken + used) later));
       event = is_event;
       quiet = quiet_of event (record { shift = shift; taken = taken'; header = []; state = state }) is_event;
+      behind = behind_of event (record { shift = shift; taken = taken'; header = []; state = state }) (sound taken') is_event;
     }
 
 -- a failed channel gives its refusal
@@ -163,7 +165,7 @@ header_fails shift taken taken' used bytes bytes' piece h bad le fits full is su
 pub eod_told : (shift taken : ℕ) (bytes piece : List ℕ) → Advances (record { shift = shift; taken = taken; header = bytes; state = EodWaits }) piece (record { used = 0; event = Some event.Eod }) (record { shift = shift; taken = taken; header = bytes; state = Done })
 unfolding to_come_in
 eod_told shift taken bytes piece =
-    record { used = omega arith; taken = sym (add-zero taken); carried = λ later. refl; event = tt; quiet = λ none. cc none }
+    record { used = omega arith; taken = sym (add-zero taken); carried = λ later. refl; event = tt; quiet = λ none. cc none; behind = inl refl }
 
 -- ---- one step after others
 
@@ -176,6 +178,7 @@ advance_more old mid new piece used step fits sum carried more =
       carried = λ later. rw (take-add used step.used piece, append_assoc) (carried (take step.used (drop used piece) ++ later) ∙ more.carried later);
       event = more.event;
       quiet = more.quiet;
+      behind = more.behind;
     }
 
 pub fails_more : (old mid new : Reader) (piece : List ℕ) (used : ℕ) (bad : BadBlock) → used ≤ length piece → mid.taken ≡ old.taken + used → ((later : List ℕ) → to_come old (take used piece ++ later) ≡ to_come mid later)

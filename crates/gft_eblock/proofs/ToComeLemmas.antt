@@ -1,16 +1,18 @@
 -- What is still to come of a channel: nothing behind its EOD, nothing from no byte, and no end from fewer bytes than it wants.
-use Rattle.std.proofs.Common.{◌≡◌, ℕ, ◌-◌, ◌<◌, List, [], ◌∷◌, ◌++◌, length, drop, Option, Some, None, append-nil, refl, sym, ap, ◌∙◌, subst, arith, length-append}
+use Rattle.std.proofs.Common.{◌≡◌, ℕ, ◌-◌, ◌<◌, ◌⊎◌, inl, inr, List, [], ◌∷◌, ◌++◌, length, drop, Option, Some, None, append-nil, refl, sym, ap, ◌∙◌, subst, arith, length-append}
 use Rattle.std.proofs.Math.Seq.{drop-length, take-nil}
 use Rattle.std.proofs.lemmas.Bool.{lt-ltb}
 use Rattle.std.proofs.lemmas.List.{take-append-drop}
-use Rattle.gft_eblock.specs.Arrival.{Arrival, Bad, Refusal}
+use Rattle.gft_eblock.specs.declared.TheConstants.{HEADER_LEN}
+use Rattle.gft_eblock.specs.declared.bad_block.BadBlock.{BadBlock}
+use Rattle.gft_eblock.specs.Arrival.{Arrival, Bad, Eod, Refusal}
 use Rattle.gft_eblock.specs.declared.channel.State.{State}
 use Rattle.gft_eblock.specs.declared.channel.State.TheVariants.{Header, Data, EodWaits, Done, Failed}
 use Rattle.gft_eblock.specs.declared.event.Event.{Event}
 use Rattle.gft_eblock.specs.declared.event.Event.TheVariants as event
 use Rattle.gft_eblock.specs.declared.event.Step.{Step}
 use Rattle.gft_eblock.specs.Arrivals.{IsUnfinished, data_at, data_then, blocks_from}
-use Rattle.gft_eblock.specs.Channel.{Reader, IsDone, IsDoneState, to_come, to_come_in, wanted, wanted_in}
+use Rattle.gft_eblock.specs.Channel.{Reader, IsDone, IsDoneState, IsSoundState, to_come, to_come_in, wanted, wanted_in}
 use Rattle.gft_eblock.specs.Feeding.{Advances, IsEventOf, event_arrivals}
 use Rattle.gft_eblock.proofs.BlockLemmas.{blocks_from-short}
 use Rattle.gft_eblock.proofs.EndingLemmas.{IsUnfinished-data_at, data_cut}
@@ -49,8 +51,41 @@ to_come_in-early EodWaits shift taken header bytes lt = absurd (omega arith)
 to_come_in-early Done shift taken header bytes lt = absurd (omega arith)
 to_come_in-early (Failed bad) shift taken header bytes lt = absurd (omega arith)
 
+-- a front of what is wanted brings data at most
+to_come_in-data : (s : State) (shift taken : ℕ) (header bytes : List ℕ) → length bytes < wanted_in s header → (offset : ℕ) × (values : List ℕ) × (to_come_in s shift taken header bytes ≡ data_at offset values)
+unfolding to_come_in
+to_come_in-data Header shift taken header bytes lt =
+    (0, [], blocks_from-short shift (taken - length header) (header ++ bytes) (omega (arith, length-append header bytes)))
+to_come_in-data (Data offset left eod) shift taken header bytes lt = (offset, bytes, data_cut offset left bytes _ lt)
+to_come_in-data EodWaits shift taken header bytes lt = absurd (omega arith)
+to_come_in-data Done shift taken header bytes lt = absurd (omega arith)
+to_come_in-data (Failed bad) shift taken header bytes lt = absurd (omega arith)
+
+pub to_come-data : (reader : Reader) (bytes : List ℕ) → length bytes < wanted reader → (offset : ℕ) × (values : List ℕ) × (to_come reader bytes ≡ data_at offset values)
+to_come-data reader bytes lt = to_come_in-data reader.state reader.shift reader.taken reader.header bytes lt
+
 pub to_come-early : (reader : Reader) (bytes : List ℕ) → length bytes < wanted reader → IsUnfinished (to_come reader bytes)
 to_come-early reader bytes lt = to_come_in-early reader.state reader.shift reader.taken reader.header bytes lt
+
+-- ---- behind an event
+
+not_failed : (told : Option Event) (bad : BadBlock) (header : List ℕ) → IsEventOf told (Failed bad) header → ⊥
+not_failed None bad header shape = omega (arith, shape)
+not_failed (Some (event.Piece offset bytes)) bad header shape = shape.2
+not_failed (Some (event.Eof total)) bad header shape = shape
+not_failed (Some event.Eod) bad header shape = shape
+
+behind_in : (told : Option Event) (s : State) (shift taken : ℕ) (header : List ℕ) → IsSoundState s taken header → IsEventOf told s header → (to_come_in s shift taken header [] ≡ []) ⊎ (to_come_in s shift taken header [] ≡ Eod ∷ [])
+unfolding to_come_in
+behind_in told Header shift taken header sound shape = inl (to_come_in-nothing Header shift taken header (let short = sound.0 in omega arith))
+behind_in told (Data offset left eod) shift taken header sound shape = inl (to_come_in-nothing (Data offset left eod) shift taken header sound.0)
+behind_in told EodWaits shift taken header sound shape = inr refl
+behind_in told Done shift taken header sound shape = inl refl
+behind_in told (Failed bad) shift taken header sound shape = absurd (not_failed told bad header shape)
+
+-- behind an event at most an EOD waits
+pub behind_of : (told : Option Event) (r : Reader) → IsSoundState r.state r.taken r.header → IsEventOf told r.state r.header → (to_come r [] ≡ []) ⊎ (to_come r [] ≡ Eod ∷ [])
+behind_of told r sound shape = behind_in told r.state r.shift r.taken r.header sound shape
 
 -- ---- a bad block that comes first is refused
 

@@ -1,5 +1,5 @@
 -- What a channel does with a piece of its stream.
-use Rattle.std.specs.Prelude.{◌≡◌, ℕ, ◌+◌, ◌<◌, ◌≤◌, List, [], ◌∷◌, ◌++◌, length, take, Option, Some, None}
+use Rattle.std.specs.Prelude.{◌≡◌, ℕ, ◌+◌, ◌<◌, ◌≤◌, ◌⊎◌, List, [], ◌∷◌, ◌++◌, length, take, Option, Some, None}
 use Rattle.gft_base.specs.declared.TheConstants.{LIMIT}
 use Rattle.gft_eblock.specs.declared.TheConstants.{HEADER_LEN}
 use Rattle.gft_eblock.specs.Arrival.{Arrival, Eof, Eod, Bad}
@@ -34,8 +34,8 @@ IsEventOf (Some (event.Piece offset bytes)) state header =
 IsEventOf (Some (event.Eof total)) state header = IsOpen state
 IsEventOf (Some event.Eod) state header = IsDoneState state
 
--- the step takes the front of the piece, and its event carries what these bytes bring; if there is none,
--- nothing waits
+-- the step takes the front of the piece, and its event carries what these bytes bring; at most an EOD waits
+-- behind it, and nothing where there is none
 pub record Advances (old : Reader) (piece : List ℕ) (step : Step) (new : Reader) : Type 0 where
   pub used : step.used ≤ length piece
   pub taken : new.taken ≡ old.taken + step.used
@@ -43,6 +43,7 @@ pub record Advances (old : Reader) (piece : List ℕ) (step : Step) (new : Reade
       → to_come old (take step.used piece ++ later) ≡ event_arrivals step.event ++ to_come new later
   pub event : IsEventOf step.event new.state new.header
   pub quiet : step.event ≡ None → to_come new [] ≡ []
+  pub behind : (to_come new [] ≡ []) ⊎ (to_come new [] ≡ Eod ∷ [])
 
 -- a bad block came: the last byte of its header is the last that was taken, in this piece or before it
 pub record Fails (old : Reader) (piece : List ℕ) (bad : BadBlock) (new : Reader) : Type 0 where

@@ -2,6 +2,7 @@ use Rattle.std.proofs.Common.{◌≡◌, ◌+◌, [], ◌∙◌, ap, refl, subst
 use Rattle.gft_eblock.specs.declared.channel.State.{State}
 use Rattle.gft_eblock.specs.Channel.{IsSoundState, Reader}
 use Rattle.gft_eblock.proofs.FeedLemmas.{eod_told, failed_again, quiet_of}
+use Rattle.gft_eblock.proofs.ToComeLemmas.{behind_of}
 use Rattle.gft_eblock.proofs.channel.Channel.step.Goals as goal
 
 pub returns-in-Data-clause-ok : goal.returns-in-Data-clause-ok
@@ -17,6 +18,7 @@ returns-in-Data-clause-ok c =
       carried = c.take_data-state.ensures.carried r.shift r.taken;
       event = c.take_data-state.ensures.event;
       quiet = quiet_of step.event (record { shift = r.shift; taken = r.taken + step.used; header = []; state = c.take_data-state.result.1 }) c.take_data-state.ensures.event;
+      behind = behind_of step.event (record { shift = r.shift; taken = r.taken + step.used; header = []; state = c.take_data-state.result.1 }) (c.take_data-state.ensures.sound (r.taken + step.used)) c.take_data-state.ensures.event;
     })
 
 pub returns-in-EodWaits-clause-ok : goal.returns-in-EodWaits-clause-ok

@@ -24,7 +24,7 @@ returns-clause-ok c =
     rw (← c.self.view_is, in_header, c.clear.ensures)
     (header_opens r.shift r.taken _ c.gather-used.result r.header.items c.args.piece.now c.decode-header.result c.open_block-state.result.0 c.open_block-state.result.1 short.1
     (omega (arith, c.gather-used.ensures.used)) (omega (arith, c.gather-used.ensures.used, c.gather-used.ensures.size)) read refl
-    (sym c.if-is_bad.ensures) c.open_block-state.ensures.carried c.open_block-state.ensures.event)
+    (sym c.if-is_bad.ensures) c.open_block-state.ensures.carried c.open_block-state.ensures.event c.open_block-state.ensures.sound)
 
 pub returns-then-is_bad-clause-bad : goal.returns-then-is_bad-clause-bad
 returns-then-is_bad-clause-bad c =
