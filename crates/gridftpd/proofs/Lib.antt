@@ -5,6 +5,7 @@ mod EndLemmas
 mod EventLemmas
 mod FollowLemmas
 mod OriginLemmas
+mod RangeLemmas
 mod StatusLemmas
 mod WordsLemmas
 mod CertainLemmas

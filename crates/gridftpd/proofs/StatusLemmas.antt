@@ -93,18 +93,18 @@ answers_of ending own old new before after (inr (made, inl put)) input drive =
     subst (λ (s : Status). Answers s old new before after) (sym put.0) (calm old new before after put.2 (made_blames_none ending old.input new.input old.drive new.drive made input drive), put.1)
 answers_of ending own old new before after (inr (made, inr failed)) input drive = subst (λ (s : Status). Answers s old new before after) (sym failed.0) failed.1
 
--- where no count rose, what isn't refused is stored, or memory was
-certain_by : (own : Status) (old new : FaultCounts) (before after : Option (List ℕ)) → Answers own old new before after → NoneRose old new → number_of own ≢ 1 → number_of own ≢ 2
-    → (number_of own ≡ 0) ⊎ (number_of own ≡ 6)
-certain_by status.Complete old new before after answers none refused usage = inl refl
-certain_by status.Refused old new before after answers none refused usage = absurd (refused refl)
-certain_by status.Usage old new before after answers none refused usage = absurd (usage refl)
-certain_by status.ReadFailed old new before after answers none refused usage = absurd (none.input answers.0)
-certain_by status.PutFailed old new before after answers none refused usage = absurd (none.output answers)
-certain_by status.DriveFailed old new before after answers none refused usage = absurd (none.drive answers.2)
-certain_by status.OutOfMemory old new before after answers none refused usage = inr refl
+-- where no count rose, the status is that of a file that is stored, of want of memory or of a refusal
+certain_by : (own : Status) (old new : FaultCounts) (before after : Option (List ℕ)) → Answers own old new before after → NoneRose old new → number_of own ≢ 2
+    → (number_of own ≡ 0) ⊎ (number_of own ≡ 6) ⊎ (number_of own ≡ 1)
+certain_by status.Complete old new before after answers none usage = inl refl
+certain_by status.Refused old new before after answers none usage = inr (inr refl)
+certain_by status.Usage old new before after answers none usage = absurd (usage refl)
+certain_by status.ReadFailed old new before after answers none usage = absurd (none.input answers.0)
+certain_by status.PutFailed old new before after answers none usage = absurd (none.output answers)
+certain_by status.DriveFailed old new before after answers none usage = absurd (none.drive answers.2)
+certain_by status.OutOfMemory old new before after answers none usage = inr (inl refl)
 
-pub certain_of : (own : Status) (number : ℕ) (old new : FaultCounts) (before after : Option (List ℕ)) → number ≡ number_of own → Answers own old new before after → NoneRose old new → number ≢ 1 → number ≢ 2
-    → (number ≡ 0) ⊎ (number ≡ 6)
+pub certain_of : (own : Status) (number : ℕ) (old new : FaultCounts) (before after : Option (List ℕ)) → number ≡ number_of own → Answers own old new before after → NoneRose old new → number ≢ 2
+    → (number ≡ 0) ⊎ (number ≡ 6) ⊎ (number ≡ 1)
 certain_of own number old new before after is answers none =
-    subst (λ (n : ℕ). n ≢ 1 → n ≢ 2 → (n ≡ 0) ⊎ (n ≡ 6)) (sym is) (certain_by own old new before after answers none)
+    subst (λ (n : ℕ). n ≢ 2 → (n ≡ 0) ⊎ (n ≡ 6) ⊎ (n ≡ 1)) (sym is) (certain_by own old new before after answers none)

@@ -1,26 +1,29 @@
 -- What `gridftpd drain` promises.
-use Rattle.std.specs.Prelude.{◌≡◌, ℕ, ◌<◌, ◌⊎◌, List, [], ◌∷◌, length, take, slice_get, Option, Some}
+use Rattle.std.specs.Prelude.{◌≡◌, ℕ, ◌<◌, ◌≤◌, ◌⊎◌, List, [], ◌∷◌, length, take, slice_get, Option, Some}
 use Rattle.std.specs.Io.KnownBytes.{Consumes, Appends}
 use Rattle.gft_base.specs.Words.{Rose}
-use Rattle.gft_eblock.specs.Words.{Arrival, At, Eof, Eod, Bad, Arrives, eods, IsUnfinished, HasEnded}
+use Rattle.gft_eblock.specs.Words.{Arrival, At, Eof, Eod, Bad, Arrives, eods, HasEnded}
 use Rattle.gft_core.specs.Words.{Done}
 use Rattle.gft_drive.specs.Words.{DriveState, Reads}
 use Rattle.gft_drive.specs.declared.Part.TheVariants.{Bytes}
+use Rattle.gft_drive.specs.declared.TheConstants.{MAX_RANGES}
 use Rattle.gft_eblock.specs.declared.TheConstants.{MAX_BYTES}
-use Rattle.gridftpd.specs.Cause.{told_by, NeedsMoreRanges}
+use Rattle.gridftpd.specs.Cause.{told_by, GoesOn, IsCause, NeedsMoreRanges}
 use Rattle.gridftpd.specs.Events.{events_of, IsKept}
 use Rattle.gridftpd.specs.Line.{text_of, complete_text, drive_failed_text, out_of_memory_text}
-use Rattle.gridftpd.specs.Line.{read_failed_text, usage_text}
-use Rattle.gridftpd.specs.Status.{status_of}
+use Rattle.gridftpd.specs.Line.{ranges_full_text, read_failed_text, usage_text}
+use Rattle.gridftpd.specs.Status.{number_of, status_of}
 use Rattle.gridftpd.specs.declared.outcome.Outcome.{Outcome}
 use Rattle.gridftpd.specs.declared.outcome.Outcome.TheVariants as outcome
 use Rattle.gridftpd.specs.declared.status.Status.{Status}
 use Rattle.gridftpd.specs.declared.status.Status.TheVariants as status
 
--- these bytes were taken of the input, and no part of them has an EOD or a bad header: what follows is unread
+-- these bytes were taken of the input, at most 2^58, and none of their shorter fronts has what ends an intake:
+-- what follows is unread
 pub record IsTaken (before after : Option (List ℕ)) (stream : List ℕ) : Type 0 where
   pub consumed : Consumes before after stream
-  pub in_time : (n : ℕ) → n < length stream → IsUnfinished (told_by (take n stream))
+  pub few : length stream ≤ MAX_BYTES
+  pub in_time : (n : ℕ) → n < length stream → GoesOn (told_by (take n stream))
 
 -- the transfer is done, and the data is now its kept bytes and no byte more
 abbrev pub IsStored : List ℕ → DriveState → DriveState → Type 0
@@ -118,9 +121,25 @@ pub record IsHonest (source : List ℕ) (list : List Arrival) : Type 0 where
   pub truthful : IsTruthful source list
   pub whole : 0 < eods list → (x : ℕ) → x < length source → Arrives list x
 
--- an input that makes a transfer done, with an EOD (or a bad header) within 2^58 bytes, and no piece of which
--- needs more ranges than may be kept
+-- an input that makes a transfer done, with its EOD within fewer than 2^58 bytes
 pub record IsGood (bytes : List ℕ) : Type 0 where
   pub done : Done (events_of (told_by bytes))
   pub soon : (n : ℕ) × (n < MAX_BYTES) × HasEnded (told_by (take n bytes))
-  pub few_ranges : ¬ NeedsMoreRanges (told_by bytes)
+
+-- what the words, the bytes taken and the line say of how an intake ended
+pub record EndsAs (number : ℕ) (before after : Option (List ℕ)) (written put : Option (List ℕ))
+    (faults risen : ℕ) : Type 0 where
+  pub ending : Outcome
+  pub stream : List ℕ
+  pub taken : IsTaken before after stream
+  pub cause : IsCause ending stream after
+  pub own : Status
+  pub number_is : number ≡ number_of own
+  pub told : IsTold ending own written put faults risen
+
+-- the ranges were full, and the line says so
+pub record FillsRanges (before after : Option (List ℕ)) (written put : Option (List ℕ)) : Type 0 where
+  pub stream : List ℕ
+  pub taken : IsTaken before after stream
+  pub cause : NeedsMoreRanges stream
+  pub line : Appends written put (ranges_full_text MAX_RANGES)

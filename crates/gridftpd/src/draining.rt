@@ -4,12 +4,11 @@ ghost use Rattle.gft_drive.specs.Words.{Goes, Reads};
 ghost use Rattle.gft_drive.specs.declared.Part.TheVariants.{Bytes};
 ghost use Rattle.gridftpd.specs.DrainWords.{AreDrainWords, name_in};
 ghost use Rattle.gridftpd.specs.Cause.{IsCause, told_by};
-ghost use Rattle.gridftpd.specs.Drain.{Answers, FaultCounts, NoneRose, IsPut, IsRefusal, IsTold};
+ghost use Rattle.gridftpd.specs.Drain.{Answers, EndsAs, FaultCounts, FillsRanges, NoneRose, IsPut, IsTold};
 ghost use Rattle.gridftpd.specs.Drain.{DriveIsBlamed, InputIsBlamed, IsFile, IsGood, IsHonest, IsStored};
 ghost use Rattle.gridftpd.specs.Drain.{IsTaken};
-ghost use Rattle.gridftpd.specs.Line.{usage_text, text_of, out_of_memory_text};
+ghost use Rattle.gridftpd.specs.Line.{usage_text, out_of_memory_text};
 ghost use Rattle.gridftpd.specs.Status.{number_of};
-ghost use Rattle.gridftpd.specs.declared.outcome.Outcome.{Outcome};
 ghost use Rattle.gridftpd.specs.declared.status.Status.{Status};
 
 use crate::intake::Intake;
@@ -61,12 +60,6 @@ pub fn drain<I: Source, W: Sink, D: Drive + Drop, O: Origin>(
         × IsTaken (I.left input.old) (I.left input.new) stream
         × IsSomeAnd result.1 (λ back. IsStored stream (D.state drive) (D.state back)) }
 
-    // Status 1 only with the line of an outcome that the bytes taken show.
-    ensures refused { result.0 ≡ 1 → (outcome : Outcome) × (stream : List ℕ)
-        × IsTaken (I.left input.old) (I.left input.new) stream
-        × IsRefusal outcome × IsCause outcome stream (I.left input.new)
-        × Appends (W.written out.old) (W.written out.new) (text_of outcome) }
-
     // Each status has its line, and its faults: none is passed over.
     ensures told { (status : Status) × (result.0 ≡ number_of status)
         × IsSomeAnd result.1 (λ back. Answers status
@@ -77,16 +70,20 @@ pub fn drain<I: Source, W: Sink, D: Drive + Drop, O: Origin>(
     // Other words touch nothing but the line.
     ensures other_words { ¬ AreDrainWords words.now
         → ((result.0 ≡ 2) ⊎ (result.0 ≡ 4)) × (result.1 ≡ Some drive) × (input.new ≡ input.old) }
-    ensures right_words { AreDrainWords words.now
-        → (result.0 ≢ 2) × IsSomeAnd result.1 (λ back. Goes (D.state drive) (D.state back)) }
+    // Right words end as the first cause that is met says, and what follows it is unread.
+    ensures right_words { AreDrainWords words.now → (result.0 ≢ 2)
+        × IsSomeAnd result.1 (λ back. Goes (D.state drive) (D.state back))
+        × EndsAs result.0 (I.left input.old) (I.left input.new)
+        (W.written out.old) (W.written out.new) (W.faults out.old) (W.faults out.new) }
 
-    // A good input is stored where no fault was counted, unless memory was refused.
+    // A good input is stored where no fault was counted, unless memory was refused or the ranges were full.
     ensures certain { AreDrainWords words.now
         → (bytes : List ℕ) → I.left input.old ≡ Some bytes → IsGood bytes
         → IsSomeAnd result.1 (λ back. NoneRose
         (record { input = I.faults input.old; output = W.faults out.old; drive = (D.state drive).faults })
         (record { input = I.faults input.new; output = W.faults out.new; drive = (D.state back).faults }))
-        → (result.0 ≡ 0) ⊎ (result.0 ≡ 6) }
+        → (result.0 ≡ 0) ⊎ (result.0 ≡ 6) ⊎ ((result.0 ≡ 1)
+        × FillsRanges (I.left input.old) (I.left input.new) (W.written out.old) (W.written out.new)) }
 
     // From an honest sender of a named source, status 0 comes only with the equal file.
     ensures equal { (source bytes : List ℕ) → O.source (D.state drive).label ≡ Some source

@@ -88,7 +88,7 @@ impl<D: Drive + Drop> Intake<D> {
     /// Feeds one piece, and tells whether the EOD came.
     fn turn(&mut self, piece: &[u8]) -> Result<bool, Outcome>
         requires not_done { ¬ IsDone self.old.channel }
-        requires room { self.old.channel.taken + length piece.now ≤ MAX_BYTES }
+        requires room { self.old.channel.taken + length piece.now < MAX_BYTES }
         requires wanted { length piece.now ≤ wanted self.old.channel }
         requires whole { IsWhole (keep_of D.state self.old.keep) }
         requires holds { Holds (keep_of D.state self.old.keep).ranges (keep_of D.state self.old.keep).drive }

@@ -16,6 +16,7 @@ pub(crate) fn read_next<I: Source>(
     ensures count { IfOk result (λ n. (n ≤ length buf.new) × (n ≤ most)) }
     ensures consumed { IfOk result (λ n. Consumes (I.left input.old) (I.left input.new) (take n buf.new)) }
     ensures at_end { IfOk result (λ n. n ≡ 0 → 0 < most → IsAtEnd (I.left input.new)) }
+    ensures asked { OnErr result (0 < most) }
     ensures nothing { OnErr result (Consumes (I.left input.old) (I.left input.new) []) }
     ensures cause { HasCause (I.faults input.old) (I.faults input.new) result }
 {

@@ -4,7 +4,7 @@ use Rattle.gft_drive.proofs.Lemmas.{Goes-then}
 use Rattle.gft_keep.specs.declared.Keep.{Keep}
 use Rattle.gft_keep.specs.Words.{keep_of}
 use Rattle.gridftpd.specs.Drain.{IsStored}
-use Rattle.gridftpd.proofs.EndLemmas.{nothing_taken, stored_since, blamed_since}
+use Rattle.gridftpd.proofs.EndLemmas.{nothing_met, nothing_taken, stored_since, blamed_since}
 use Rattle.gridftpd.proofs.draining.store_input.Goals as goal
 
 pub returns-in-Err-clause-goes : goal.returns-in-Err-clause-goes
@@ -58,7 +58,10 @@ returns-clause-goes g c =
     (Goes-then (state c.args.drive) emptied last (Goes-then (state c.args.drive) attached emptied c.in-Ok-attach.ensures.ok.goes c.fresh.ensures.goes) ran)
 
 pub returns-in-Err-Failed-default-clause-caused : goal.returns-in-Err-Failed-default-clause-caused
-returns-in-Err-Failed-default-clause-caused g c = ([], nothing_taken _, tt, λ same. cc)
+returns-in-Err-Failed-default-clause-caused g c = ([], nothing_taken _, nothing_met, λ same. cc)
 
 pub returns-in-Err-clause-caused : goal.returns-in-Err-clause-caused
-returns-in-Err-clause-caused g c = ([], nothing_taken _, tt, λ same. cc)
+returns-in-Err-clause-caused g c = ([], nothing_taken _, nothing_met, λ same. cc)
+
+pub returns-in_default-clause-caused : goal.returns-in_default-clause-caused
+returns-in_default-clause-caused g c = ([], nothing_taken _, nothing_met, λ same. cc)

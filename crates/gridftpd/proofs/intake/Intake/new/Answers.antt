@@ -13,15 +13,20 @@ returns-clause-follows g c =
     record {
       told = [];
       carried = λ later. sym (c.new.ensures.to_come later);
-      offsets = λ x. (none x, λ came. absurd came);
+      booked = record {
+        offsets = λ x. (none x, λ came. absurd came);
+        normal = rw c.requires.empty tt;
+        few = rw c.requires.empty (omega arith);
+      };
       kept = Reads-same Bytes (HasKeptIn [] (keep_of g.D.Drive.state c.args.keep).ranges) (keep_of g.D.Drive.state c.args.keep).drive (λ xs x had. absurd (none x had));
       holds = λ image told x had. absurd (none x had);
       goes = record { label = refl; tells = (λ some. some, λ some. some) };
       whole = c.requires.whole;
-      counted = record { total = c.new-2.ensures.total; eods = c.new-2.ensures.eods; agreed = λ total first. tt };
+      counted = record { total = c.new-2.ensures.total; eods = c.new-2.ensures.eods; agreed = tt };
       sound = tt;
       eods = refl;
       taken = c.new.ensures.taken;
+      short = omega arith;
       unfinished = λ zero. tt;
       in_time = λ n lt. absurd (omega arith);
     }
