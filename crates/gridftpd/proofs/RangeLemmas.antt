@@ -17,18 +17,18 @@ few_with : (told : List Arrival) (set : List Range) (offset : ℕ) (bytes : List
     → ((x : ℕ) → HasOffset ranges x ↔ (HasOffset set x ⊎ InRange (block_of offset bytes) x)) × (length ranges ≤ length set + 1)
 few_with told set offset bytes behind ranges books none normal same =
     let joined : (x : ℕ) → HasOffset ranges x ↔ (HasOffset set x ⊎ InRange (block_of offset bytes) x) = λ x.
-        let split = Arrives-append told (data_at offset bytes ++ behind) x in
-        let more = Arrives-append (data_at offset bytes) behind x in
-        let inside = Arrives-data_at offset bytes x in (
-          λ had. elim (split.0 ((same x).0 had)) [
-            | inl old ↦ inl ((books.offsets x).1 old)
-            | inr new ↦ elim (more.0 new) [ inl here ↦ inr (inside.0 here) | inr later ↦ absurd (none x later) ]
-          ],
-          λ either. elim either [
-            | inl old ↦ (same x).1 (split.1 (inl ((books.offsets x).0 old)))
-            | inr new ↦ (same x).1 (split.1 (inr (more.1 (inl (inside.1 new)))))
-          ],
-        ) in
+    let split = Arrives-append told (data_at offset bytes ++ behind) x in
+    let more = Arrives-append (data_at offset bytes) behind x in
+    let inside = Arrives-data_at offset bytes x in (
+      λ had. elim (split.0 ((same x).0 had)) [
+        | inl old ↦ inl ((books.offsets x).1 old)
+        | inr new ↦ elim (more.0 new) [ inl here ↦ inr (inside.0 here) | inr later ↦ absurd (none x later) ]
+      ],
+      λ either. elim either [
+        | inl old ↦ (same x).1 (split.1 (inl ((books.offsets x).0 old)))
+        | inr new ↦ (same x).1 (split.1 (inr (more.1 (inl (inside.1 new)))))
+      ],
+    ) in
     let le = normal_few ranges (block_of offset bytes ∷ set) normal (λ x. (
       λ had. elim ((joined x).0 had) [ inl old ↦ inr old | inr new ↦ inl new ],
       λ either. elim either [ inl new ↦ (joined x).1 (inr new) | inr old ↦ (joined x).1 (inl old) ],

@@ -95,7 +95,7 @@ impl<D: Drive + Drop> Intake<D> {
         ensures follows { IfOk result (λ ended. (label : List ℕ) (contents : Option Image) (stream : List ℕ)
             → Follows D.state (start_of label contents) 0 stream self.old
             → Follows D.state (start_of label contents) (if ended then 1 else 0)
-                (stream ++ piece.now) self.new) }
+            (stream ++ piece.now) self.new) }
         ensures ended { IfOk result (λ ended. IsTrue ended ↔ IsDone self.new.channel) }
         ensures waiting { IfOk result (λ ended. wanted self.old.channel ≡ 0 → IsTrue ended) }
         ensures caused { IfErr result (λ outcome. (label : List ℕ) (contents : Option Image) (stream : List ℕ)

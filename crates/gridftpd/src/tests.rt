@@ -41,7 +41,7 @@ const LONG: &str = concat!(
     "nnnnnnnnnnnnnnnnnnnnnnnnnnnnnnnnnnnnnnnnnnnnnnnnnnnnnnnnnnnnnnnnnnn",
 );
 
-static RECORDINGS: [Row; 15] = [
+static RECORDINGS: [Row; 19] = [
     (HELLO, ALL, 0, STORED, Some("hello")),
     (&[(64, 1, ""), (8, 0, "")], ALL, 0, STORED, Some("")),
     (TWICE, ALL, 0, STORED, Some("HELLOX")),
@@ -101,7 +101,29 @@ static RECORDINGS: [Row; 15] = [
         "426 Two totals: 2 and 3.\n",
         None,
     ),
+    (
+        &[(64, 2, ""), (64, 3, ""), (0, 0, "ab"), (8, 0, "")],
+        ALL,
+        1,
+        "426 Two totals: 2 and 3.\n",
+        Some(""),
+    ),
     (&[(64, 0, "")], ALL, 1, "426 Bad total: 0.\n", None),
+    (
+        &[(64, 0, ""), (8, 0, "")],
+        ALL,
+        1,
+        "426 Bad total: 0.\n",
+        Some(""),
+    ),
+    (&[(72, 0, "")], ALL, 1, "426 Bad total: 0.\n", Some("")),
+    (
+        &[(0, 0, "hello"), (64, 2, ""), (72, 3, "")],
+        38,
+        1,
+        "426 Channel lost: lane 0, channel 0, 38 bytes taken.\n",
+        Some("hello"),
+    ),
     (&[(64, 1025, "")], ALL, 1, "426 Bad total: 1025.\n", None),
     (
         &[(16, 0, "a")],
@@ -227,6 +249,22 @@ fn what_follows_the_eod_is_left_unread(rt: HostRuntime) -> Result<(), Fail> {
     let (status, _out, _back) = run::<Unknown>(alloc, WORDS, &mut input, Vec::new(alloc), &[])?;
     assert_eq!(rt; status, 0);
     assert_eq!(rt; input.rest().len(), 22);
+    Ok(())
+}
+
+#[test]
+fn what_follows_a_refusal_is_left_unread(rt: HostRuntime) -> Result<(), Fail> {
+    let alloc = rt.alloc();
+    for (blocks, rest) in [
+        ([(64, 2, ""), (64, 3, ""), (12, 0, "")], 17),
+        ([(64, 0, ""), (64, 1, ""), (12, 0, "")], 34),
+        ([(0, 0, "ab"), (16, 0, ""), (64, 1, "")], 17),
+    ] {
+        let mut input = MemorySource::new(recording(alloc, &blocks, ALL)?, 40, Vec::new(alloc));
+        let (status, _out, _back) = run::<Unknown>(alloc, WORDS, &mut input, Vec::new(alloc), &[])?;
+        assert_eq!(rt; status, 1);
+        assert_eq!(rt; input.rest().len(), rest);
+    }
     Ok(())
 }
 
