@@ -1,5 +1,5 @@
 -- What the head and the slots of a part say of it.
-use Rattle.std.proofs.Common.{◌≡◌, ◌≢◌, ◌↔◌, ℕ, ◌<◌, ◌≤◌, Bool, IsTrue, List, length, Some, Result, Ok, Err, sym, ◌∙◌, subst, arith}
+use Rattle.std.proofs.Common.{◌≡◌, ◌≢◌, ◌↔◌, ℕ, ◌<◌, Bool, IsTrue, List, length, Some, Result, Ok, Err, sym, ◌∙◌, subst, arith}
 use Rattle.std.specs.Result.{IfOk}
 use Rattle.gft_range.specs.Words.{HasOffset, IsNormal}
 use Rattle.gft_drive.specs.Words.{Covers, DriveState, IsBorn, IsComplete, IsIntact, IsLawful, IsSynced, Unchanged, Elapses, Leaves, Reads, Same, Anything, bank_at, selected, slot}
@@ -55,6 +55,8 @@ found_on (Ok f) old first second new lawful_second lawful_new read reads bytes r
   read = looks.read ∙ reads ∙ read;
   finds = λ image told. found.finds image (reads ∙ read ∙ told);
   few = found.few;
+  in_limit = found.in_limit;
+  end = found.end;
   stands = record {
     matches = λ image told. found.matches image (sym looks.read ∙ told);
     synced = synced_looked Ranges second new lawful_new looks ranges;

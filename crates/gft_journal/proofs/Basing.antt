@@ -5,7 +5,7 @@ use Rattle.std.specs.Option.{MatchOption}
 use Rattle.std.proofs.lemmas.Bool.{cases_eq}
 use Rattle.std.proofs.lemmas.Option.{slice_get_within}
 use Rattle.gft_drive.specs.Words.{Slot, first_layout, bank_size, bank_at, slot_at, IsPadded}
-use Rattle.gft_drive.specs.Words.{selected, slot, IsOpenAs, Has, Names, LastEndsAt, Covers, IsComplete, IsIntact, IsFit, range_kind, complete_kind}
+use Rattle.gft_drive.specs.Words.{IsBorn, selected, slot, IsOpenAs, Has, Names, LastEndsAt, Covers, IsComplete, IsIntact, IsFit, range_kind, complete_kind}
 use Rattle.gft_drive.specs.Words.{Written, Torn, DiffersIn}
 use Rattle.gft_drive.proofs.Lemmas.{slot_same, torn_differs, written_differs}
 use Rattle.gft_drive.proofs.Lemmas.{SameBelow, names_all, ends_all}
@@ -100,9 +100,10 @@ module _ (set : List Range) (complete : Option ℕ) (g : ℕ → Slot) (nth : (i
   shut_behind i le lt gate = absurd (cc (listed i lt gate, nth_past set (end_slot complete) i le))
 
 -- where the selector and the selected bank stay, so do the ranges and the complete length
-pub bank_same : (xs ys : List ℕ) → selected ys ≡ selected xs → length ys ≡ length xs
+pub bank_same : (xs ys : List ℕ) → selected ys ≡ selected xs → (IsBorn xs → IsBorn ys) → length ys ≡ length xs
     → ((k : ℕ) → bank_at (selected xs) ≤ k → k < bank_at (selected xs) + bank_size → get_or ys k 0 ≡ get_or xs k 0) → BearsOrNot xs ys
-bank_same xs ys selector size bytes = record {
+bank_same xs ys selector born size bytes = record {
+  born = born;
   ranges = λ x. part_has (λ b. Names (slot ys b) 65534 x ↔ Covers xs x) (names_all 65534 x (slot xs (selected xs)) (slot ys (selected xs)) slots_same);
   complete = λ len. part_has (λ b. LastEndsAt complete_kind (slot ys b) 65534 len ↔ IsComplete xs len) (ends_all complete_kind 65534 len (slot xs (selected xs)) (slot ys (selected xs)) slots_same);
   sound = λ was. record {
@@ -131,7 +132,7 @@ bank_same xs ys selector size bytes = record {
 bank_kept : (xs ys : List ℕ) → selected ys ≡ selected xs → get_or ys 1 0 ≡ get_or xs 1 0 → length ys ≡ length xs
     → ((k : ℕ) → bank_at (selected xs) ≤ k → k < bank_at (selected xs) + bank_size → get_or ys k 0 ≡ get_or xs k 0) → SameJournal xs ys
 bank_kept xs ys selector born size bytes =
-    let same = bank_same xs ys selector size bytes in
+    let same = bank_same xs ys selector (λ is. born ∙ is) size bytes in
     record { ranges = same.ranges; rest = record { complete = same.complete; born = (λ is. sym born ∙ is, λ is. born ∙ is); sound = same.sound } }
 
 module _ (xs : List ℕ) (o : ℕ) (other : o ≡ 1 - selected xs) where

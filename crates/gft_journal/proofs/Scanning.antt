@@ -1,6 +1,5 @@
 -- A slot more of a bank is read.
-use Rattle.std.proofs.Common.{◌≡◌, ◌≢◌, ◌⊎◌, ◌↔◌, inl, inr, ⊎_elim, ℕ, zero, suc, ◌+◌, ◌*◌, ◌-◌, ◌<◌, ◌≤◌, List, [], ◌∷◌, ◌++◌, length, get_or, take, drop, Option, Some, refl, sym, ◌∙◌, ap, subst, arith}
-use Rattle.std.specs.List.{slice_get}
+use Rattle.std.proofs.Common.{◌≡◌, ◌≢◌, ◌⊎◌, ◌↔◌, inl, inr, ⊎_elim, ℕ, ◌+◌, ◌*◌, ◌-◌, ◌<◌, ◌≤◌, List, length, get_or, take, drop, Option, Some, sym, ◌∙◌, ap, subst, arith}
 use Rattle.std.proofs.lemmas.Bool.{cases_eq}
 use Rattle.std.proofs.lemmas.List.{get_or-take, get_or-drop}
 use Rattle.gft_drive.specs.Words.{Slot, first_layout, number_at, slot_of, slot_at, IsPad, IsPadded, IsOpenAs, Has, IsFit, Names, LastEndsAt, range_kind, complete_kind}
@@ -10,7 +9,7 @@ use Rattle.gft_range.specs.declared.Range.{Range}
 use Rattle.gft_journal.proofs.Adding.{first_fits}
 use Rattle.gft_journal.proofs.Sets.{iff_trans, iff_back}
 use Rattle.gft_journal.specs.declared.scan.Scan.{Scan}
-use Rattle.gft_journal.specs.Scan.{Takes, IsScan, GoesOver, HasSlots, InSlot, IsBad, IsBadAt, MeetsBad}
+use Rattle.gft_journal.specs.Scan.{Takes, IsScan, GoesOver, InSlot, IsBad, MeetsBad}
 
 pub six : (bytes : List ℕ) (at : ℕ) → number_at bytes at 6 ≡ ((get_or bytes at 0 * 256 + get_or bytes (at + 1) 0) * 256 + get_or bytes (at + 2) 0) * 16777216 + ((get_or bytes (at + 3) 0 * 256 + get_or bytes (at + 4) 0) * 256 + get_or bytes (at + 5) 0)
 unfolding number_at

@@ -1,12 +1,12 @@
 -- The ranges of a set.
-use Rattle.std.proofs.Common.{◌≡◌, ◌⊎◌, ◌↔◌, inl, inr, ⊎_elim, ℕ, zero, suc, ◌+◌, ◌-◌, ◌<◌, ◌≤◌, List, [], ◌∷◌, length, Some, Result, Ok, Err, OnOk, refl, sym, subst, arith}
+use Rattle.std.proofs.Common.{◌≡◌, ◌↔◌, inl, inr, ⊎_elim, ℕ, zero, suc, ◌-◌, ◌<◌, ◌≤◌, List, [], ◌∷◌, length, Some, Result, Ok, Err, OnOk, refl, sym, subst, arith}
 use Rattle.std.specs.List.{slice_get}
 use Rattle.gft_base.specs.declared.TheConstants.{LIMIT}
 use Rattle.gft_range.specs.declared.Range.{Range}
 use Rattle.gft_range.specs.Words.{HasOffset, InRange, IsNormal}
 use Rattle.gft_journal.specs.Bank.{InSet, IsSet}
 use Rattle.gft_journal.specs.Journal.{Becomes, BecomesOrNot, Completes, CompletesOrNot, AreJustBelow}
-use Rattle.gft_drive.specs.Words.{Covers, IsComplete, DriveState, Reads, Leaves, IsSynced}
+use Rattle.gft_drive.specs.Words.{Covers, DriveState, Reads, Leaves, IsSynced}
 use Rattle.gft_drive.specs.declared.Part.TheVariants.{Ranges}
 use Rattle.gft_drive.proofs.Lemmas.{leaves_as}
 use Rattle.gft_drive.specs.declared.TheConstants.{MAX_RANGES}

@@ -1,7 +1,9 @@
 -- What attaching a journal finds, and what it leaves.
-use Rattle.std.specs.Prelude.{◌≡◌, ◌↔◌, ℕ, ◌+◌, ◌<◌, ◌≤◌, Bool, IsTrue, List, length, slice_index, Option}
-use Rattle.std.specs.Prelude.{Some, Result, Ok, Err}
+use Rattle.std.specs.Prelude.{◌≡◌, ◌↔◌, ℕ, ◌+◌, ◌<◌, ◌≤◌, Bool, IsTrue, List, length, slice_index}
+use Rattle.std.specs.Prelude.{Some, Result, Err}
+use Rattle.gft_base.specs.declared.TheConstants.{LIMIT}
 use Rattle.gft_range.specs.Words.{HasOffset}
+use Rattle.gft_journal.specs.Bank.{IsEnd}
 use Rattle.gft_drive.specs.declared.TheConstants.{MAX_RANGES, RANGES_LEN}
 use Rattle.gft_drive.specs.declared.Part.TheVariants.{Bytes}
 use Rattle.gft_drive.specs.Words.{Covers, DriveState, Elapses, Image, IsBorn, IsComplete, IsSynced, LeavesBy}
@@ -36,6 +38,8 @@ pub record FoundOn (old new : DriveState) (found : Found) : Type 0 where
   pub read : new.contents ≡ old.contents
   pub finds : WhereTold old (Finds found)
   pub few : length found.set.ranges ≤ MAX_RANGES
+  pub in_limit : (x : ℕ) → HasOffset found.set.ranges x → x < LIMIT
+  pub end : IsEnd found.complete
   pub stands : IsJournalOf found.journal new
   pub synced : IsSynced Bytes new
 
@@ -66,7 +70,7 @@ abbrev pub IsBadOf : {T : Type 0} → DriveState → ℕ → ℕ → Scan → Re
 IsBadOf drive at first scan result =
     (damage : Damage) → result ≡ Err (Damaged damage)
     → WhereTold drive (λ xs. IsScan xs at first scan → (i : ℕ) × (damage ≡ Slot i) × (i < 65534)
-        × IsBadAt xs at i)
+    × IsBadAt xs at i)
 
 -- and where none was
 abbrev pub IsFirstBadOf : {T : Type 0} → DriveState → ℕ → Result T AttachError → Type 0
@@ -92,10 +96,12 @@ abbrev pub IsVersionOf : {T : Type 0} → DriveState → ℕ → Result T Attach
 IsVersionOf drive bank result =
     (damage : Damage) → result ≡ Err (Damaged damage)
     → WhereTold drive (λ xs. (damage ≡ Version bank (slice_index xs (bank_at bank)))
-        × (1 < slice_index xs (bank_at bank)))
+    × (1 < slice_index xs (bank_at bank)))
 
 -- what was found is what a read gives, and the journal is that of the part
 pub record FindsIn (drive : DriveState) (found : Found) : Type 0 where
   pub finds : WhereTold drive (Finds found)
   pub few : length found.set.ranges ≤ MAX_RANGES
+  pub in_limit : (x : ℕ) → HasOffset found.set.ranges x → x < LIMIT
+  pub end : IsEnd found.complete
   pub matches : WhereTold drive (Matches found.journal)

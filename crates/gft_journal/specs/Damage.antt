@@ -1,6 +1,5 @@
 -- When a ranges part is damaged, and how a drive is attached.
-use Rattle.std.specs.Prelude.{◌≡◌, ◌≢◌, ◌↔◌, ℕ, ◌<◌, ◌≤◌, List, length, slice_index, Result, OnOk, IsErrOf}
-use Rattle.std.specs.Prelude.{Some}
+use Rattle.std.specs.Prelude.{◌≡◌, ◌≢◌, ◌↔◌, ℕ, ◌<◌, ◌≤◌, List, length, slice_index, Result, IsErrOf}
 use Rattle.gft_base.specs.Words.{Rose}
 use Rattle.gft_range.specs.declared.Range.{Range}
 use Rattle.gft_range.specs.Words.{HasOffset, IsNormal}
@@ -10,7 +9,7 @@ use Rattle.gft_drive.specs.Words.{slot_at}
 use Rattle.gft_journal.specs.declared.damage.Damage.{Damage}
 use Rattle.gft_journal.specs.declared.damage.Damage.TheVariants.{Size, Version, Slot, Ranges, Short}
 use Rattle.gft_journal.specs.declared.damage.AttachError.{AttachError}
-use Rattle.gft_journal.specs.declared.damage.AttachError.TheVariants.{Failed, OutOfMemory, Damaged}
+use Rattle.gft_journal.specs.declared.damage.AttachError.TheVariants.{Failed}
 
 -- the slot of this number in a bank is a range's or a length's, with zeros where nothing stands
 abbrev pub IsGood : List ℕ → ℕ → ℕ → Type 0
@@ -37,7 +36,7 @@ abbrev pub FirstDamage : Damage → List ℕ → Type 0
 FirstDamage (Size len) xs = (len ≡ length xs) × (length xs ≢ RANGES_LEN)
 FirstDamage (Version bank found) xs =
     (length xs ≡ RANGES_LEN) × (bank ≡ selected xs) × (found ≡ slice_index xs (bank_at (selected xs)))
-        × (1 < found)
+    × (1 < found)
 FirstDamage (Slot i) xs =
     (length xs ≡ RANGES_LEN) × (slice_index xs (bank_at (selected xs)) ≤ 1) × FirstBadSlot xs (selected xs) i
 FirstDamage (Ranges count) xs = HasTooMany xs count

@@ -77,8 +77,9 @@ pub record Bears (old new : List ℕ) : Type 0 where
   pub born : IsBorn new
   pub sound : IsIntact old → IsIntact new
 
--- born or not
+-- born, or as before
 pub record BearsOrNot (old new : List ℕ) : Type 0 where
   pub ranges : (x : ℕ) → Covers new x ↔ Covers old x
   pub complete : (n : ℕ) → IsComplete new n ↔ IsComplete old n
+  pub born : IsBorn old → IsBorn new
   pub sound : IsIntact old → IsIntact new

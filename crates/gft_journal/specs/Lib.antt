@@ -4,3 +4,4 @@ pub mod Damage
 pub mod Journal
 pub mod Scan
 pub mod Slot
+pub mod Words

@@ -4,7 +4,7 @@ ghost use Rattle.gft_journal.specs.Attach.{FoundOn, HasSize, IsBadOf, IsDamageOf
 ghost use Rattle.gft_journal.specs.Attach.{FindsIn, HasBytesAt, HasNoDamage, IsSelected, IsVersionOf};
 ghost use Rattle.gft_journal.specs.Attach.{Rests, ScansOn, WhereTold};
 ghost use Rattle.gft_journal.specs.Damage.{HasAttachCause};
-ghost use Rattle.gft_journal.specs.Scan.{IsScan};
+ghost use Rattle.gft_journal.specs.Scan.{IsInLimit, IsScan};
 ghost use Rattle.gft_journal.specs.Slot.{bank_number};
 
 use crate::damage::{AttachError, Damage};
@@ -181,6 +181,7 @@ fn read_at<D: Drive>(drive: &mut D, at: u64, buf: &mut [u8]) -> Result<(), Attac
 // What the slots of a bank stand for.
 fn read_bank<D: Drive>(alloc: Global, drive: &mut D, bank: Bank) -> Result<Scan, AttachError>
     requires size { HasSize (D.state drive.old) }
+    ensures in_limit { IfOk result IsInLimit }
     ensures scan { IfOk result (λ scan. WhereTold (D.state drive.old)
         (λ xs. IsScan xs (bank_at (bank_number bank)) 65534 scan)) }
     ensures damaged { IsFirstBadOf (D.state drive.old) (bank_at (bank_number bank)) result }
@@ -211,6 +212,7 @@ fn read_slots<D: Drive>(
     requires size { HasSize (D.state drive.old) }
     requires room { first + count ≤ 65534 }
     requires few { count ≤ 256 }
+    ensures in_limit { IsInLimit scan.old → IsInLimit scan.new }
     ensures taken { OnOk result (ScansOn (D.state drive.old) (bank_at (bank_number bank)) first count scan.old scan.new) }
     ensures damaged { IsBadOf (D.state drive.old) (bank_at (bank_number bank)) first scan.old result }
     ensures unchanged { Unchanged (D.state drive.old) (D.state drive.new) }

@@ -1,7 +1,7 @@
 ghost use Rattle.std.specs.Prelude.{◌≡◌, ◌<◌, ◌≤◌, ◌+◌, ◌*◌, ◌^◌, ℕ, [], None, length, slice_index, OnOk};
 ghost use Rattle.std.specs.Prelude.{IsErrOf};
 ghost use Rattle.gft_drive.specs.Words.{first_layout, number_at, slot_of};
-ghost use Rattle.gft_journal.specs.Scan.{Takes, IsBad, GoesOver, MeetsBad};
+ghost use Rattle.gft_journal.specs.Scan.{Takes, IsBad, IsInLimit, GoesOver, MeetsBad};
 
 use crate::slot::{COMPLETE, RANGE};
 use gft_range::{Range, RangeSet};
@@ -60,6 +60,7 @@ impl Scan {
     fn take(&mut self, index: u16, slot: &[u8]) -> Result<(), Refused>
         requires size { length slot.now ≡ 16 }
         requires index { index < 65534 }
+        ensures in_limit { IsInLimit self.old → IsInLimit self.new }
         ensures ok { OnOk result (Takes index slot.now self.old self.new) }
         ensures bad { IsErrOf result Refused.Bad → IsBad slot.now }
     {
@@ -89,6 +90,7 @@ impl Scan {
     pub fn take_all(&mut self, first: u16, count: u16, bytes: &[u8]) -> Result<(), ScanError>
         requires whole { 16 * count ≤ length bytes.now }
         requires room { first + count ≤ 65534 }
+        ensures in_limit { IsInLimit self.old → IsInLimit self.new }
         ensures ok { OnOk result (GoesOver first count bytes.now self.old self.new) }
         ensures bad { (i : ℕ) → result ≡ Err (ScanError.Bad i) → MeetsBad first count bytes.now self.old i }
     {

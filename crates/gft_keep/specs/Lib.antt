@@ -1,7 +1,13 @@
+pub mod Appending
 pub mod Calls
-pub mod Holds
+pub mod Changing
+pub mod Image
+pub mod Keep
 pub mod Of
+pub mod Opening
 pub mod State
+pub mod Steps
 pub mod Store
-pub mod Writing
+pub mod Tearing
 pub mod Words
+pub mod Writing

@@ -8,5 +8,11 @@ drive_of keep = keep.drive
 
 -- the state of a keep, by that of its drive
 abbrev pub keep_of : {D : Type 0} → (D → DriveState) → Keep D → KeepState
-keep_of state keep =
-    record { drive = state (drive_of keep); ranges = keep.set.ranges; is_broken = keep.broken }
+keep_of state keep = record {
+  drive = state (drive_of keep);
+  ranges = keep.set.ranges;
+  complete = keep.complete;
+  is_born = keep.born;
+  standing = keep.standing;
+  journal = keep.journal;
+}

@@ -1,15 +1,26 @@
 -- What contracts see of a keep.
-use Rattle.std.specs.Prelude.{◌≡◌, List, Bool, false}
+use Rattle.std.specs.Prelude.{◌≡◌, ℕ, List, Bool, Option, IsSome}
 use Rattle.gft_range.specs.declared.Range.{Range}
-use Rattle.gft_drive.specs.Words.{DriveState}
+use Rattle.gft_drive.specs.Words.{DriveState, Image, MayLeave}
+use Rattle.gft_journal.specs.declared.Journal.{Journal}
+use Rattle.gft_keep.specs.declared.standing.Standing.{Standing}
+use Rattle.gft_keep.specs.declared.standing.Standing.TheVariants.{Whole}
 
 pub record KeepState : Type 1 where
   pub drive : DriveState
-  -- the kept ranges, as their normal list; of a broken keep those of before the change that failed
+  -- the kept ranges, as their normal list; of a broken keep those of before the call that broke it
   pub ranges : List Range
-  -- a change failed
-  pub is_broken : Bool
+  -- the length of a complete file
+  pub complete : Option ℕ
+  pub is_born : Bool
+  pub standing : Standing
+  -- of a broken keep it stands for nothing
+  pub journal : Journal
 
 -- no change failed
 abbrev pub IsWhole : KeepState → Type 0
-IsWhole keep = keep.is_broken ≡ false
+IsWhole keep = keep.standing ≡ Whole
+
+-- each image that a crash now may leave is so, if the drive tells its contents
+abbrev pub EachImage : KeepState → (Image → Type 0) → Type 0
+EachImage keep P = IsSome keep.drive.contents → (image : Image) → MayLeave keep.drive image → P image

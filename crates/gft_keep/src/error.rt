@@ -1,13 +1,5 @@
 use thiserror::Error;
 
-/// Why a drive could not be attached.
-#[derive(Clone, Copy, Debug, PartialEq, Eq, Error)]
-pub enum AttachError {
-    /// The drive failed; its count of faults rose.
-    #[error("the drive failed")]
-    Failed,
-}
-
 /// Why a block was not stored.
 #[derive(Clone, Copy, Debug, PartialEq, Eq, Error)]
 pub enum KeepError {

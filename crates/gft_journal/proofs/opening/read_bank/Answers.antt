@@ -1,4 +1,4 @@
-use Rattle.std.proofs.Common.{rules, ◌≡◌, ℕ, ◌+◌, ◌*◌, sym, ap, ◌∙◌, subst, arith}
+use Rattle.std.proofs.Common.{rules, ◌≡◌, ℕ, ◌+◌, ◌*◌, ◌∙◌, subst, arith}
 use Rattle.gft_drive.specs.Words.{bank_at}
 use Rattle.gft_drive.proofs.Lemmas.{Unchanged-then}
 use Rattle.gft_journal.specs.Slot.{bank_number}
@@ -13,6 +13,7 @@ loop-i-preserved g c =
     record {
       looks = Unchanged-then (s c.args.drive.now) (s c.loop-i.drive) (s c.read_slots.new.drive) (laws c.loop-i.drive) (laws c.read_slots.new.drive) kept.looks c.read_slots.ensures.unchanged;
       faults = search rules;
+      in_limit = c.read_slots.ensures.in_limit kept.in_limit;
       scan = λ read told.
           let count : 256 * c.loop-i.i + 256 ≡ 256 * (c.loop-i.i + 1) = omega arith in
           subst (λ (n : ℕ). IsScan read.ranges (bank_at (bank_number c.args.bank)) n c.read_slots.new.scan) count (c.in-Ok.ensures.taken read (kept.looks.read ∙ told) (kept.scan read told));

@@ -1,4 +1,4 @@
-use Rattle.std.proofs.Common.{◌≡◌, ℕ, Result, Err, refl, sym, ap, ◌∙◌, subst, arith}
+use Rattle.std.proofs.Common.{◌≡◌, Err, refl, sym, ap, ◌∙◌, subst, arith}
 use Rattle.gft_journal.specs.Damage.{FirstDamage}
 use Rattle.gft_journal.specs.Slot.{bank_number}
 use Rattle.gft_journal.specs.declared.damage.Damage.{Damage}
@@ -34,6 +34,8 @@ returns-clause-found g c = record {
         complete = completed read.ranges (bank_number c.in-Ok.head.0) c.in-Ok.head.1 c.in-Ok-read_bank.scan head scan;
         born = head.born;
       };
+  in_limit = c.in-Ok-read_bank.ensures.in_limit.ranges;
+  end = c.in-Ok-read_bank.ensures.in_limit.complete;
   few = omega (arith, c.count-count.ensures.count, c.if-count-gt-MAX_RANGES.false);
   matches = λ read told.
       let head = c.in-Ok.ensures.head read told in

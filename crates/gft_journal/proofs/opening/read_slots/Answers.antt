@@ -1,10 +1,9 @@
-use Rattle.std.proofs.Common.{rules, ◌≡◌, ℕ, ◌+◌, ◌*◌, ◌<◌, ◌≤◌, List, length, Result, Err, sym, ap, ◌∙◌, subst, arith}
+use Rattle.std.proofs.Common.{rules, ◌≡◌, ℕ, ◌+◌, ◌*◌, List, length, Err, sym, ap, ◌∙◌, arith}
 use Rattle.std.specs.Prelude.{slice_index}
 use Rattle.gft_drive.specs.Words.{first_layout, slot_at, bank_at}
 use Rattle.gft_journal.specs.Attach.{HasBytesAt}
 use Rattle.gft_journal.specs.Slot.{bank_number}
 use Rattle.gft_journal.specs.Scan.{HasSlots}
-use Rattle.gft_journal.specs.declared.damage.Damage.{Damage}
 use Rattle.gft_journal.specs.declared.damage.Damage.TheVariants.{Slot}
 use Rattle.gft_journal.specs.declared.scan.ScanError.{ScanError}
 use Rattle.gft_journal.proofs.opening.read_slots.Goals as goal

@@ -1,6 +1,6 @@
-use Rattle.std.proofs.Common.{◌≡◌, sym, ◌∙◌}
+use Rattle.std.proofs.Common.{sym, ◌∙◌}
 use Rattle.gft_drive.specs.Words.{Torn}
-use Rattle.gft_drive.proofs.Lemmas.{elapses_refl, since_nothing, exact_goes_on, sync_goes_on, leaves_by, reads_from}
+use Rattle.gft_drive.proofs.Lemmas.{since_nothing, exact_goes_on, sync_goes_on, leaves_by, reads_from}
 use Rattle.gft_journal.specs.Journal.{BearsOrNot}
 use Rattle.gft_journal.proofs.Births.{bears_same, torn_births, bears, matches_born}
 use Rattle.gft_journal.proofs.journal.Journal.birth.Goals as goal
@@ -14,7 +14,7 @@ returns-in_err-write_at-clause-any_moment g c =
     let P = BearsOrNot read.ranges in
     let nothing = since_nothing (s start) P read told c.requires.stands.synced (bears_same read.ranges) in
     exact_goes_on (s start) (s start) (s c.write_at.new.self) P (Torn 1 1) read (laws start) (laws c.write_at.new.self) nothing told c.requires.stands.synced c.write_at.ensures.crash c.write_at.ensures.only.time
-    (λ zs torn. torn_births c.args.self.now read.ranges zs (c.requires.stands.matches read told) torn))
+    (λ zs torn. torn_births c.args.self.now read.ranges zs (c.requires.stands.matches read told) c.if-self.false torn))
 
 pub returns-in_err-sync-clause-any_moment : goal.returns-in_err-sync-clause-any_moment
 returns-in_err-sync-clause-any_moment g c =
@@ -25,7 +25,7 @@ returns-in_err-sync-clause-any_moment g c =
     let P = BearsOrNot read.ranges in
     let nothing = since_nothing (s start) P read told c.requires.stands.synced (bears_same read.ranges) in
     let wrote = exact_goes_on (s start) (s start) (s c.write_at.new.self) P (Torn 1 1) read (laws start) (laws c.write_at.new.self) nothing told c.requires.stands.synced c.write_at.ensures.crash c.write_at.ensures.only.time
-    (λ zs torn. torn_births c.args.self.now read.ranges zs (c.requires.stands.matches read told) torn) in
+    (λ zs torn. torn_births c.args.self.now read.ranges zs (c.requires.stands.matches read told) c.if-self.false torn) in
     let staged = c.in_ok-write_at.ensures.written read told in
     sync_goes_on (s start) (s c.write_at.new.self) (s c.sync.new.self) P staged.0 (laws c.write_at.new.self) (laws c.sync.new.self) wrote staged.1 c.sync.ensures.crash c.sync.ensures.only.time)
 
@@ -38,7 +38,7 @@ returns-clause-any_moment g c =
     let P = BearsOrNot read.ranges in
     let nothing = since_nothing (s start) P read told c.requires.stands.synced (bears_same read.ranges) in
     let wrote = exact_goes_on (s start) (s start) (s c.write_at.new.self) P (Torn 1 1) read (laws start) (laws c.write_at.new.self) nothing told c.requires.stands.synced c.write_at.ensures.crash c.write_at.ensures.only.time
-    (λ zs torn. torn_births c.args.self.now read.ranges zs (c.requires.stands.matches read told) torn) in
+    (λ zs torn. torn_births c.args.self.now read.ranges zs (c.requires.stands.matches read told) c.if-self.false torn) in
     let staged = c.in_ok-write_at.ensures.written read told in
     sync_goes_on (s start) (s c.write_at.new.self) (s c.sync.new.self) P staged.0 (laws c.write_at.new.self) (laws c.sync.new.self) wrote staged.1 c.sync.ensures.crash c.sync.ensures.only.time)
 
@@ -47,7 +47,7 @@ returns-clause-born g c = λ read told.
     let staged = c.in_ok-write_at.ensures.written read told in (
       staged.0,
       c.in_ok-sync.ensures.read ∙ staged.1,
-      record { changed = bears c.args.self.now read.ranges staged.0.ranges (c.requires.stands.matches read told) staged.2.changed; kept = staged.2.kept },
+      record { changed = bears c.args.self.now read.ranges staged.0.ranges (c.requires.stands.matches read told) c.if-self.false staged.2.changed; kept = staged.2.kept },
     )
 
 pub returns-clause-stands : goal.returns-clause-stands
@@ -56,6 +56,6 @@ returns-clause-stands g c =
     record {
       matches = λ last told.
           let from = reads_from (s c.args.drive.now) (s c.write_at.new.self) _ c.write_at.ensures.only.time c.in_ok-write_at.ensures.written last (sym c.in_ok-sync.ensures.read ∙ told) in
-          matches_born c.args.self.now from.0.ranges last.ranges (c.requires.stands.matches from.0 from.1) from.2.changed;
+          matches_born c.args.self.now from.0.ranges last.ranges (c.requires.stands.matches from.0 from.1) c.if-self.false from.2.changed;
       synced = c.in_ok-sync.ensures.durable;
     }

@@ -1,5 +1,4 @@
-use Rattle.std.proofs.Common.{◌≡◌, ◌↔◌, ℕ, ◌<◌, [], ◌∷◌, OnOk, sym, subst}
-use Rattle.gft_range.specs.Words.{HasOffset}
+use Rattle.std.proofs.Common.{ℕ, [], ◌∷◌, OnOk, sym, subst}
 use Rattle.gft_drive.specs.Words.{Reads, Leaves}
 use Rattle.gft_drive.specs.declared.Part.TheVariants.{Ranges}
 use Rattle.gft_journal.specs.Journal.{Completes, CompletesOrNot, AreJustBelow}
