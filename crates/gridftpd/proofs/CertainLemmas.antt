@@ -101,6 +101,7 @@ module _ (bytes stream rest : List ℕ) (all : bytes ≡ stream ++ rest) (good :
   no_refusal (outcome.CountRefused error) is cause in_time = absurd (not_miscounted error cause)
   no_refusal outcome.TooLong is cause in_time = absurd (not_too_long in_time cause)
   no_refusal (outcome.RangesFull kept) is cause in_time = (cause.1, ap (λ n. outcome.RangesFull n) cause.0)
+  no_refusal outcome.Damaged is cause in_time = absurd is
   no_refusal outcome.ReadFailed is cause in_time = absurd is
   no_refusal outcome.DriveFailed is cause in_time = absurd is
   no_refusal outcome.OutOfMemory is cause in_time = absurd is

@@ -113,7 +113,7 @@ pub record EndsBad (stream : List ℕ) (refused : Refusal) : Type 0 where
   pub few : HasRangesAtMost MAX_RANGES (told_by stream)
 
 -- what an outcome says of the bytes that were taken, and of those that are left: it is met, and nothing that is
--- answered before it is; a fault and want of memory are met by no byte
+-- answered before it is; a fault, want of memory and a damage are met by no byte
 abbrev pub IsCause : Outcome → List ℕ → Option (List ℕ) → Type 0
 IsCause outcome.Complete stream left = MeetsNone stream × Done (events_of (told_by stream))
 IsCause (outcome.Lost taken) stream left = MeetsNone stream × IsLost stream left taken
@@ -123,6 +123,7 @@ IsCause (outcome.BadBlock bad) stream left = EndsBad stream (refusal_of bad)
 IsCause (outcome.CountRefused error) stream left = IsMiscounted stream error
 IsCause outcome.TooLong stream left = length stream ≡ MAX_BYTES
 IsCause (outcome.RangesFull kept) stream left = (kept ≡ MAX_RANGES) × NeedsMoreRanges stream
+IsCause outcome.Damaged stream left = stream ≡ []
 IsCause outcome.ReadFailed stream left = MeetsNone stream × IsUnfinished (told_by stream)
 IsCause outcome.DriveFailed stream left = MeetsNone stream
 IsCause outcome.OutOfMemory stream left = MeetsNone stream

@@ -4,13 +4,13 @@ use Rattle.std.specs.Io.KnownBytes.{Consumes, Appends}
 use Rattle.gft_base.specs.Words.{Rose}
 use Rattle.gft_eblock.specs.Words.{Arrival, At, Eof, Eod, Bad, Arrives, eods, HasEnded}
 use Rattle.gft_core.specs.Words.{Done}
-use Rattle.gft_drive.specs.Words.{DriveState, Reads}
-use Rattle.gft_drive.specs.declared.Part.TheVariants.{Bytes}
+use Rattle.gft_drive.specs.Words.{DriveState, Goes, Image}
 use Rattle.gft_drive.specs.declared.TheConstants.{MAX_RANGES}
 use Rattle.gft_eblock.specs.declared.TheConstants.{MAX_BYTES}
 use Rattle.gridftpd.specs.Cause.{told_by, GoesOn, IsCause, NeedsMoreRanges}
-use Rattle.gridftpd.specs.Events.{events_of, IsKept}
-use Rattle.gridftpd.specs.Line.{text_of, complete_text, drive_failed_text, out_of_memory_text}
+use Rattle.gridftpd.specs.Events.{events_of}
+use Rattle.gridftpd.specs.Images.{FindsDamage, HoldsAtEnd}
+use Rattle.gridftpd.specs.Line.{text_of, complete_text, damaged_text, drive_failed_text, out_of_memory_text}
 use Rattle.gridftpd.specs.Line.{ranges_full_text, read_failed_text, usage_text}
 use Rattle.gridftpd.specs.Status.{number_of, status_of}
 use Rattle.gridftpd.specs.declared.outcome.Outcome.{Outcome}
@@ -25,15 +25,9 @@ pub record IsTaken (before after : Option (List ℕ)) (stream : List ℕ) : Type
   pub few : length stream ≤ MAX_BYTES
   pub in_time : (n : ℕ) → n < length stream → GoesOn (told_by (take n stream))
 
--- the transfer is done, and the data is now its kept bytes and no byte more
-abbrev pub IsStored : List ℕ → DriveState → DriveState → Type 0
-IsStored stream old new =
-    Done (events_of (told_by stream))
-    × Reads Bytes (λ before after. IsKept (events_of (told_by stream)) after) old new
-
--- the data is now the source, and no byte more
-abbrev pub IsFile : List ℕ → List ℕ → List ℕ → Type 0
-IsFile source before after = after ≡ source
+-- the data is the source, and no byte more
+abbrev pub IsFile : List ℕ → Image → Type 0
+IsFile source image = image.bytes ≡ source
 
 -- the line was put, the status is its own and no put failed; or the put failed
 abbrev pub IsPut : Status → List ℕ → Status → Option (List ℕ) → Option (List ℕ) → ℕ → ℕ → Type 0
@@ -45,6 +39,7 @@ IsPut own line result before after faults risen =
 abbrev pub IsMade : Outcome → Type 0
 IsMade outcome.Complete = ⊥
 IsMade outcome.TooLong = ⊥
+IsMade outcome.Damaged = ⊥
 IsMade outcome.ReadFailed = ⊥
 IsMade outcome.DriveFailed = ⊥
 IsMade other = Unit {0}
@@ -97,6 +92,7 @@ Answers status.DriveFailed old new before after =
     × Appends before after drive_failed_text
 Answers status.OutOfMemory old new before after =
     NoneCounted old new × Appends before after out_of_memory_text
+Answers status.Damaged old new before after = NoneCounted old new × Appends before after damaged_text
 
 -- the outcomes that are refused by a 426 or a 452 line
 abbrev pub IsRefusal : Outcome → Type 0
@@ -126,9 +122,10 @@ pub record IsGood (bytes : List ℕ) : Type 0 where
   pub done : Done (events_of (told_by bytes))
   pub soon : (n : ℕ) × (n < MAX_BYTES) × HasEnded (told_by (take n bytes))
 
--- what the words, the bytes taken and the line say of how an intake ended
+-- how right words end: by the first cause that is met, with its line; what follows is unread, and whatever the
+-- cause, what is kept is held by what a read gives and by each image that a crash may leave
 pub record EndsAs (number : ℕ) (before after : Option (List ℕ)) (written put : Option (List ℕ))
-    (faults risen : ℕ) : Type 0 where
+    (faults risen : ℕ) (old new : DriveState) : Type 0 where
   pub ending : Outcome
   pub stream : List ℕ
   pub taken : IsTaken before after stream
@@ -136,6 +133,9 @@ pub record EndsAs (number : ℕ) (before after : Option (List ℕ)) (written put
   pub own : Status
   pub number_is : number ≡ number_of own
   pub told : IsTold ending own written put faults risen
+  pub damage : FindsDamage ending old
+  pub holds : HoldsAtEnd ending stream old new
+  pub goes : Goes old new
 
 -- the ranges were full, and the line says so
 pub record FillsRanges (before after : Option (List ℕ)) (written put : Option (List ℕ)) : Type 0 where

@@ -5,6 +5,9 @@ ghost use Rattle.gft_base.specs.Words.{HasCause};
 use gft_base::Failed;
 use gft_drive::Source;
 
+/// The most bytes of one read.
+pub(crate) const READ_LEN: usize = 65_536;
+
 /// Reads at most so many bytes into the front of the buffer; none where none is wanted, or at the
 /// end of the input.
 pub(crate) fn read_next<I: Source>(

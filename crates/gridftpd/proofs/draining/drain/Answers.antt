@@ -8,7 +8,7 @@ pub returns-clause-complete : goal.returns-clause-complete
 returns-clause-complete g c zero =
     let stored = c.store_input-outcome.ensures.caused in
     let told = told_of c.store_input-outcome.result.0 c.tell.result _ _ _ _ c.number-2.result c.tell.ensures c.number-2.ensures in
-    (stored.0, stored.1, stored.3 (told.complete zero))
+    (stored.0, stored.1, stored.4 (told.complete zero))
 
 pub returns-clause-told : goal.returns-clause-told
 returns-clause-told g c =
@@ -19,7 +19,6 @@ returns-clause-right_words g c words =
     let stored = c.store_input-outcome.ensures.caused in
     let told = told_of c.store_input-outcome.result.0 c.tell.result _ _ _ _ c.number-2.result c.tell.ensures c.number-2.ensures in (
       told.not_usage,
-      c.store_input-outcome.ensures.goes,
       record {
         ending = c.store_input-outcome.result.0;
         stream = stored.0;
@@ -28,15 +27,18 @@ returns-clause-right_words g c words =
         own = c.tell.result;
         number_is = c.number-2.ensures;
         told = c.tell.ensures;
+        damage = c.store_input-outcome.ensures.damage;
+        holds = stored.3;
+        goes = c.store_input-outcome.ensures.goes;
       },
     )
 
 pub returns-clause-certain : goal.returns-clause-certain
-returns-clause-certain g c words bytes left good none =
+returns-clause-certain g c words bytes left good none undamaged =
     let stored = c.store_input-outcome.ensures.caused in
     let told = told_of c.store_input-outcome.result.0 c.tell.result _ _ _ _ c.number-2.result c.tell.ensures c.number-2.ensures in
     let answers = answers_of c.store_input-outcome.result.0 c.tell.result _ _ _ _ c.tell.ensures c.store_input-outcome.ensures.input c.store_input-outcome.ensures.drive in
-    elim (certain_of c.tell.result c.number-2.result _ _ _ _ c.number-2.ensures answers none told.not_usage) [
+    elim (certain_of c.tell.result c.number-2.result _ _ _ _ c.number-2.ensures answers none told.not_usage undamaged) [
       | inl zero ↦ inl zero
       | inr other ↦ elim other [
         | inl six ↦ inr (inl six)
@@ -51,4 +53,4 @@ returns-clause-equal g c source bytes named left honest zero =
     let state = g.D.Drive.state in
     let stored = c.store_input-outcome.ensures.caused in
     let told = told_of c.store_input-outcome.result.0 c.tell.result _ _ _ _ c.number-2.result c.tell.ensures c.number-2.ensures in
-    stored_is_source source bytes stored.0 (g.I.Source.left c.args.input.now) (g.I.Source.left c.store_input-outcome.new.input) (state c.args.drive) (state c.store_input-outcome.result.1) left honest stored.1 (stored.3 (told.complete zero))
+    stored_is_source source bytes stored.0 (g.I.Source.left c.args.input.now) (g.I.Source.left c.store_input-outcome.new.input) (state c.store_input-outcome.result.1) left honest stored.1 (stored.4 (told.complete zero))
