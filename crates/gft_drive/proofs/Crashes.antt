@@ -1,6 +1,6 @@
 -- What a step leaves on a drive that keeps its steps.
-use Rattle.std.proofs.Common.{◌≡◌, ◌⊎◌, inl, inr, ⊎_elim, ℕ, ◌≤◌, Bool, List, [], ◌∷◌, length, Result, Ok, Err, OnOk, OnErr, IsOk, true, refl, sym, ◌∙◌, ap, subst, arith}
-use Rattle.gft_drive.specs.Drive.{Image, MayLeave, OnPart, Leaves, Reads}
+use Rattle.std.proofs.Common.{◌≡◌, ◌⊎◌, inl, inr, ℕ, Bool, List, [], ◌∷◌, length, Result, Ok, Err, OnOk, OnErr, IsOk, true, refl, sym, ◌∙◌, ap, subst, arith}
+use Rattle.gft_drive.specs.Drive.{Image, OnPart, Leaves, Reads}
 use Rattle.gft_drive.specs.Write.{Written, Torn, TornCut, Same}
 use Rattle.gft_drive.specs.declared.drive.Part.{Part}
 use Rattle.gft_drive.specs.declared.drive.Part.TheVariants.{Bytes, Ranges}

@@ -1,6 +1,6 @@
 -- Calls that only look.
-use Rattle.std.proofs.Common.{◌≡◌, ⊎_elim, ℕ, ◌≤◌, sym, ◌∙◌, arith}
-use Rattle.gft_drive.specs.Drive.{Image, DriveState, MayLeave, IsLawful, Elapses, Unchanged, IsSynced}
+use Rattle.std.proofs.Common.{⊎_elim, sym, ◌∙◌, arith}
+use Rattle.gft_drive.specs.Drive.{DriveState, IsLawful, Unchanged, IsSynced}
 use Rattle.gft_drive.specs.declared.drive.Part.{Part}
 use Rattle.gft_drive.proofs.Run.{elapses_trans}
 

@@ -1,5 +1,5 @@
 -- Runs of calls on the ranges part: what every image since a start has, what those of now have, and what a read gives.
-use Rattle.std.proofs.Common.{◌≡◌, inl, inr, ⊎_elim, ℕ, List, Option, Some, None, IsSome, refl, sym, ◌∙◌, subst, arith}
+use Rattle.std.proofs.Common.{◌≡◌, inl, inr, ⊎_elim, ℕ, List, Some, refl, sym, ◌∙◌, subst, arith}
 use Rattle.gft_drive.specs.Drive.{Image, DriveState, MayLeave, IsLawful, Elapses, OnPart, Reads, Leaves, IsSynced}
 use Rattle.gft_drive.specs.Write.{Same}
 use Rattle.gft_drive.proofs.Steps.{Goes-refl, Goes-then, told_some, tells_some}

@@ -1,6 +1,6 @@
 -- Calls of a drive, one after another.
 use Rattle.std.proofs.Common.{◌≡◌, List, ℕ, Option, Some, None, IsSome, refl, ◌∙◌, sym, subst}
-use Rattle.gft_drive.specs.Drive.{Image, DriveState, Goes, OnPart, Reads}
+use Rattle.gft_drive.specs.Drive.{Image, DriveState, Goes, Reads}
 use Rattle.gft_drive.specs.declared.drive.Part.{Part}
 
 pub Goes-refl : (old : DriveState) → Goes old old

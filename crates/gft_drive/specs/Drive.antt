@@ -90,7 +90,8 @@ abbrev pub Leaves : Part → (List ℕ → List ℕ → Type 0) → DriveState �
 Leaves part step old new = LeavesBy (OnPart part step) old new
 
 -- a call that may change this part leaves the other, and has its time and its cause
-pub record ChangesOnly {T E : Type 0} (part : Part) (old new : DriveState) (result : Result T E) : Type 0 where
+pub record ChangesOnly {T E : Type 0} (part : Part) (old new : DriveState)
+    (result : Result T E) : Type 0 where
   pub other : Reads part Anything old new
   pub time : Elapses old new
   pub cause : HasCause old.faults new.faults result

@@ -1,7 +1,7 @@
--- How the ranges part is laid out: 64 bytes of head, two banks of the same size, and slots behind each bank's head.
+-- How the ranges part is laid out: 64 bytes of head, and two banks of the same size, each a head and slots.
 use Rattle.std.specs.Prelude.{◌≡◌, ℕ, zero, suc, ◌+◌, ◌*◌, ◌<◌, ◌≤◌, ◌⊎◌, List, slice_index}
 
--- a slot's size in bytes, how many a bank has, and where in a slot its two numbers stand and how wide they are
+-- a slot's size in bytes, how many a bank has, where in a slot its two numbers stand, and their width
 pub record Layout : Type 0 where
   pub size : ℕ
   pub count : ℕ

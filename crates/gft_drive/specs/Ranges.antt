@@ -1,5 +1,5 @@
--- What a ranges part stands for: the offsets that it names, the complete length, and whether the drive is born.
-use Rattle.std.specs.Prelude.{◌≡◌, ℕ, ◌%◌, ◌^◌, ◌-◌, ◌<◌, ◌≤◌, ◌⊎◌, List, length, slice_index}
+-- What a ranges part stands for: the offsets that it names, the complete length, and the drive's birth.
+use Rattle.std.specs.Prelude.{◌≡◌, ℕ, ◌%◌, ◌<◌, ◌≤◌, ◌⊎◌, List, length, slice_index}
 use Rattle.gft_drive.specs.Layout.{Layout, Slot, layout_of, bank_at, slot_at, slot_of, IsPadded}
 use Rattle.gft_drive.specs.declared.TheConstants.{RANGES_LEN}
 
@@ -60,4 +60,5 @@ pub record IsIntact (xs : List ℕ) : Type 0 where
   pub version : slice_index xs (bank_at (selected xs)) ≤ 1
   pub slots : (i : ℕ) → i < (layout_at xs (selected xs)).count → (slot xs (selected xs) i).gate ≡ 1
       → IsFit (slot xs (selected xs) i)
-      × IsPadded (layout_at xs (selected xs)) xs (slot_at (layout_at xs (selected xs)) (bank_at (selected xs)) i)
+      × IsPadded (layout_at xs (selected xs)) xs
+      (slot_at (layout_at xs (selected xs)) (bank_at (selected xs)) i)

@@ -27,7 +27,8 @@ overwritten at bytes old =
 
 -- what a step leaves of a part
 abbrev pub stepped : Step → Part → List ℕ → List ℕ
-stepped (Write on at bytes is_done) part xs = cond (is_on on part && is_done) (overwritten at bytes.items xs) xs
+stepped (Write on at bytes is_done) part xs = cond (is_on on part && is_done)
+    (overwritten at bytes.items xs) xs
 stepped (Cut on len) part xs = cond (is_on on part) (take len xs) xs
 stepped (Sync on) part xs = xs
 
@@ -51,7 +52,8 @@ LeftBy (Sync on) part read may xs = cond (is_on on part) (xs ≡ read) (may xs)
 
 -- what a crash may leave of a step that isn't synced
 abbrev pub Tears : Step → Part → List ℕ → List ℕ → Type 0
-Tears (Write on at bytes is_done) part old new = cond (is_on on part) (Torn at (length bytes.items) old new) (new ≡ old)
+Tears (Write on at bytes is_done) part old new = cond (is_on on part) (Torn at (length bytes.items) old new)
+    (new ≡ old)
 Tears (Cut on len) part old new = cond (is_on on part) (TornCut len old new) (new ≡ old)
 Tears (Sync on) part old new = new ≡ old
 
@@ -64,7 +66,8 @@ syncs (Sync on) part = is_on on part
 -- what a crash may leave of a part after the steps
 abbrev pub LeftAfter : Image → List Step → Part → List ℕ → Type 0
 LeftAfter first [] part xs = xs ≡ part_of part first
-LeftAfter first (s ∷ older) part xs = LeftBy s part (content_after first older part) (LeftAfter first older part) xs
+LeftAfter first (s ∷ older) part xs = LeftBy s part (content_after first older part)
+    (LeftAfter first older part) xs
 
 abbrev pub ImagesAfter : Image → List Step → Image → Type 0
 ImagesAfter first steps image = LeftAfter first steps Bytes image.bytes

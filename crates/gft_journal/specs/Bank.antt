@@ -32,7 +32,8 @@ slots_of set complete = map range_slot set ++ end_slot complete
 
 -- the slot at this place is the one of this number
 abbrev pub IsNth : List Slot → ℕ → List ℕ → ℕ → Type 0
-IsNth slots i xs at = MatchOption (slice_get slots i) (slice_index xs at ≡ 0) (λ s. (slot_of first_layout xs at ≡ s) × IsPadded first_layout xs at)
+IsNth slots i xs at = MatchOption (slice_get slots i) (slice_index xs at ≡ 0)
+    (λ s. (slot_of first_layout xs at ≡ s) × IsPadded first_layout xs at)
 
 -- the 16 bytes at this place are those of this number in a bank: two of its
 -- head, of which the first begins with the version, and then its slots

@@ -58,7 +58,8 @@ BecomesOrNot set complete old new = SameJournal old new ⊎ Becomes set complete
 
 -- the ranges are exactly the first len offsets in what a read gives
 abbrev pub AreJustBelow : ℕ → DriveState → Type 0
-AreJustBelow len drive = (read : Image) → drive.contents ≡ Some read → (x : ℕ) → Covers read.ranges x ↔ (x < len)
+AreJustBelow len drive =
+    (read : Image) → drive.contents ≡ Some read → (x : ℕ) → Covers read.ranges x ↔ (x < len)
 
 -- the file is complete with this length
 pub record Completes (len : ℕ) (old new : List ℕ) : Type 0 where

@@ -76,8 +76,11 @@ pub(crate) fn write_bank<D: Drive>(
     requires room { HasBank (bank_at (bank_number bank)) (D.state drive.old) }
     requires set { IsSet set.now }
     requires end { IsEnd complete }
-    ensures written { OnOk result (Reads Ranges (WritesBank (bank_at (bank_number bank)) (slots_of set.now complete)) (D.state drive.old) (D.state drive.new)) }
-    ensures any_moment { Leaves Ranges (DiffersIn (bank_at (bank_number bank)) bank_size) (D.state drive.old) (D.state drive.new) }
+    ensures written { OnOk result (Reads Ranges
+        (WritesBank (bank_at (bank_number bank)) (slots_of set.now complete)) (D.state drive.old)
+        (D.state drive.new)) }
+    ensures any_moment { Leaves Ranges (DiffersIn (bank_at (bank_number bank)) bank_size)
+        (D.state drive.old) (D.state drive.new) }
     ensures time { Elapses (D.state drive.old) (D.state drive.new) }
     ensures cause { HasCause (D.state drive.old).faults (D.state drive.new).faults result }
 {

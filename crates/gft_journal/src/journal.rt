@@ -29,7 +29,7 @@ pub struct Journal {
 }
 
 impl Journal {
-    /// AddsRange a range. At `Ok` every crash from then on leaves it.
+    /// Adds a range. At `Ok` every crash from then on leaves it.
     pub fn append<D: Drive>(&mut self, drive: &mut D, range: Range) -> Result<(), Failed>
         requires stands { IsJournalOf self.old (D.state drive.old) }
         requires room { 1 ≤ slots_left self.old }
@@ -60,8 +60,10 @@ impl Journal {
         requires set { IsSet set.now }
         requires end { IsEnd complete }
         ensures stands { OnOk result (IsJournalOf self.new (D.state drive.new)) }
-        ensures based { OnOk result (Reads Ranges (Becomes set.now complete) (D.state drive.old) (D.state drive.new)) }
-        ensures any_moment { Leaves Ranges (BecomesOrNot set.now complete) (D.state drive.old) (D.state drive.new) }
+        ensures based { OnOk result (Reads Ranges (Becomes set.now complete) (D.state drive.old)
+            (D.state drive.new)) }
+        ensures any_moment { Leaves Ranges (BecomesOrNot set.now complete) (D.state drive.old)
+            (D.state drive.new) }
         ensures time { Elapses (D.state drive.old) (D.state drive.new) }
         ensures cause { HasCause (D.state drive.old).faults (D.state drive.new).faults result }
     {
@@ -84,7 +86,8 @@ impl Journal {
         requires len { len ≤ LIMIT }
         requires whole { AreJustBelow len (D.state drive.old) }
         ensures stands { OnOk result (IsJournalOf self.new (D.state drive.new)) }
-        ensures completed { OnOk result (Reads Ranges (Completes len) (D.state drive.old) (D.state drive.new)) }
+        ensures completed { OnOk result
+            (Reads Ranges (Completes len) (D.state drive.old) (D.state drive.new)) }
         ensures any_moment { Leaves Ranges (CompletesOrNot len) (D.state drive.old) (D.state drive.new) }
         ensures time { Elapses (D.state drive.old) (D.state drive.new) }
         ensures cause { HasCause (D.state drive.old).faults (D.state drive.new).faults result }
@@ -129,7 +132,8 @@ impl Journal {
         requires len { len ≤ LIMIT }
         requires whole { AreJustBelow len (D.state drive.old) }
         ensures stands { OnOk result (IsJournalOf self.new (D.state drive.new)) }
-        ensures completed { OnOk result (Reads Ranges (Completes len) (D.state drive.old) (D.state drive.new)) }
+        ensures completed { OnOk result
+            (Reads Ranges (Completes len) (D.state drive.old) (D.state drive.new)) }
         ensures any_moment { Leaves Ranges (CompletesOrNot len) (D.state drive.old) (D.state drive.new) }
         ensures time { Elapses (D.state drive.old) (D.state drive.new) }
         ensures cause { HasCause (D.state drive.old).faults (D.state drive.new).faults result }
@@ -155,8 +159,10 @@ impl Journal {
         requires ends { (x : ℕ) → HasOffset set.now.ranges x → x < LIMIT }
         requires complete { IsEnd complete }
         ensures stands { OnOk result (IsJournalOf self.new (D.state drive.new)) }
-        ensures based { OnOk result (Reads Ranges (Becomes set.now.ranges complete) (D.state drive.old) (D.state drive.new)) }
-        ensures any_moment { Leaves Ranges (BecomesOrNot set.now.ranges complete) (D.state drive.old) (D.state drive.new) }
+        ensures based { OnOk result (Reads Ranges (Becomes set.now.ranges complete) (D.state drive.old)
+            (D.state drive.new)) }
+        ensures any_moment { Leaves Ranges (BecomesOrNot set.now.ranges complete) (D.state drive.old)
+            (D.state drive.new) }
         ensures time { Elapses (D.state drive.old) (D.state drive.new) }
         ensures cause { HasCause (D.state drive.old).faults (D.state drive.new).faults result }
     {
@@ -171,7 +177,8 @@ fn open_slot<D: Drive>(drive: &mut D, at: u64, slot: &[u8]) -> Result<(), Failed
     requires size { length slot.now ≡ 16 }
     requires open { slice_index slot.now 0 ≡ 1 }
     ensures synced { OnOk result (IsSynced Ranges (D.state drive.new)) }
-    ensures written { OnOk result (Reads Ranges (Written at slot.now) (D.state drive.old) (D.state drive.new)) }
+    ensures written { OnOk result (Reads Ranges (Written at slot.now) (D.state drive.old)
+        (D.state drive.new)) }
     ensures any_moment { Leaves Ranges (Opens at slot.now) (D.state drive.old) (D.state drive.new) }
     ensures time { Elapses (D.state drive.old) (D.state drive.new) }
     ensures cause { HasCause (D.state drive.old).faults (D.state drive.new).faults result }

@@ -126,7 +126,8 @@ fn read_banks<D: Drive>(drive: &mut D) -> Result<(Bank, bool), AttachError>
 // The bank that is selected, and whether the drive is born.
 fn read_selector<D: Drive>(drive: &mut D) -> Result<(Bank, bool), AttachError>
     requires size { HasSize (D.state drive.old) }
-    ensures selected { IfOk result (λ head. WhereTold (D.state drive.old) (IsSelected (bank_number head.0) head.1)) }
+    ensures selected { IfOk result (λ head. WhereTold (D.state drive.old)
+        (IsSelected (bank_number head.0) head.1)) }
     ensures damaged { HasNoDamage (D.state drive.old) result }
     ensures unchanged { Unchanged (D.state drive.old) (D.state drive.new) }
     ensures cause { HasAttachCause (D.state drive.old).faults (D.state drive.new).faults result }
@@ -141,7 +142,8 @@ fn read_selector<D: Drive>(drive: &mut D) -> Result<(Bank, bool), AttachError>
 // Whether a bank's version is known.
 fn read_version<D: Drive>(drive: &mut D, bank: Bank) -> Result<(), AttachError>
     requires size { HasSize (D.state drive.old) }
-    ensures known { OnOk result (WhereTold (D.state drive.old) (λ xs. slice_index xs (bank_at (bank_number bank)) ≤ 1)) }
+    ensures known { OnOk result (WhereTold (D.state drive.old)
+        (λ xs. slice_index xs (bank_at (bank_number bank)) ≤ 1)) }
     ensures damaged { IsVersionOf (D.state drive.old) (bank_number bank) result }
     ensures unchanged { Unchanged (D.state drive.old) (D.state drive.new) }
     ensures cause { HasAttachCause (D.state drive.old).faults (D.state drive.new).faults result }
@@ -213,7 +215,8 @@ fn read_slots<D: Drive>(
     requires room { first + count ≤ 65534 }
     requires few { count ≤ 256 }
     ensures in_limit { IsInLimit scan.old → IsInLimit scan.new }
-    ensures taken { OnOk result (ScansOn (D.state drive.old) (bank_at (bank_number bank)) first count scan.old scan.new) }
+    ensures taken { OnOk result (ScansOn (D.state drive.old)
+        (bank_at (bank_number bank)) first count scan.old scan.new) }
     ensures damaged { IsBadOf (D.state drive.old) (bank_at (bank_number bank)) first scan.old result }
     ensures unchanged { Unchanged (D.state drive.old) (D.state drive.new) }
     ensures cause { HasAttachCause (D.state drive.old).faults (D.state drive.new).faults result }

@@ -1,10 +1,10 @@
-ghost use Rattle.std.specs.Prelude.{◌<◌, ◌≤◌, ℕ, length, OnOk};
+ghost use Rattle.std.specs.Prelude.{◌<◌, ◌≤◌, ℕ, length, IfOk, OnOk};
 ghost use Rattle.gft_range.specs.Words.{HasOffset};
 ghost use Rattle.gft_journal.specs.Journal.{IsJournalOf};
 
 use super::*;
 use gft_base::{Failed, LIMIT};
-use gft_drive::{CrashChoice, Drive, MAX_RANGES, MemoryDrive, Part};
+use gft_drive::{CallKind, CrashChoice, Drive, DriveCall, MAX_RANGES, MemoryDrive, Part};
 use gft_range::{Range, RangeSet};
 use std::alloc::Global;
 use std::process::Abort;
@@ -23,15 +23,20 @@ fn add<D: Drive>(journal: &mut Journal, drive: &mut D, start: u64, end: u64) -> 
     journal.append(drive, Range { start, end })
 }
 
-/// Completes a file whose ranges are whole.
-fn complete_whole<D: Drive>(alloc: Global, drive: &mut D) -> Result<(), AttachError> {
+/// Completes a file whose ranges are whole, and gives its journal.
+fn complete_whole<D: Drive>(alloc: Global, drive: &mut D) -> Result<Journal, AttachError>
+    ensures { IfOk result (λ journal. IsJournalOf journal (D.state drive.new)) }
+{
     let mut found = attach(alloc, drive)?;
     let len = found.set.end();
     let is_whole = found.set.covers(Range { start: 0, end: len });
-    if len > LIMIT || !is_whole || found.journal.complete(drive, len).is_err() {
+    if len > LIMIT || !is_whole {
         return Err(AttachError::Failed);
     }
-    Ok(())
+    let Ok(()) = found.journal.complete(drive, len) else {
+        return Err(AttachError::Failed);
+    };
+    Ok(found.journal)
 }
 
 /// Appends three ranges, and counts those that were acknowledged.
@@ -61,9 +66,9 @@ fn begin_again<D: Drive>(
     requires ends { (x : ℕ) → HasOffset set.now.ranges x → x < LIMIT }
 {
     journal.rebase(drive, set, Some(4))?;
-    *done = 4;
-    add(journal, drive, 8, 9)?;
     *done = 5;
+    add(journal, drive, 8, 9)?;
+    *done = 6;
     Ok(())
 }
 
@@ -71,20 +76,21 @@ fn range(start: u64, end: u64) -> Range {
     Range { start, end }
 }
 
-/// Whether these are the ranges behind so many changes.
-fn are_behind(ranges: &[Range], done: u8) -> bool {
+/// Whether this is what stands behind so many changes.
+fn is_behind(ranges: &[Range], complete: Option<u64>, done: u8) -> bool {
     match done {
-        0 => ranges.is_empty(),
-        1 => ranges == [range(0, 5)].as_slice(),
-        2 => ranges == [range(0, 5), range(7, 9)].as_slice(),
-        3 => ranges == [range(0, 9)].as_slice(),
-        4 => ranges == [range(2, 4)].as_slice(),
-        _ => ranges == [range(2, 4), range(8, 9)].as_slice(),
+        0 => ranges.is_empty() && complete.is_none(),
+        1 => ranges == [range(0, 5)].as_slice() && complete.is_none(),
+        2 => ranges == [range(0, 5), range(7, 9)].as_slice() && complete.is_none(),
+        3 => ranges == [range(0, 9)].as_slice() && complete.is_none(),
+        4 => ranges == [range(0, 9)].as_slice() && complete == Some(9),
+        5 => ranges == [range(2, 4)].as_slice() && complete == Some(4),
+        _ => ranges == [range(2, 4), range(8, 9)].as_slice() && complete == Some(4),
     }
 }
 
-/// A journal's life: a birth, three ranges, a rebase to 2-4 that is complete, and a range more.
-/// It counts the changes that were acknowledged.
+/// A journal's life: a birth, three ranges, complete with 9, a rebase to 2-4 that is complete with 4,
+/// and a range more. It counts the changes that were acknowledged.
 fn live<D: Drive>(
     alloc: Global,
     drive: &mut D,
@@ -95,6 +101,8 @@ fn live<D: Drive>(
     let Ok(()) = add_three(&mut journal, drive, done) else {
         return Err(AttachError::Failed);
     };
+    let mut journal = complete_whole(alloc, drive)?;
+    *done = 4;
     if set.count() > MAX_RANGES || set.end() > LIMIT {
         return Err(AttachError::OutOfMemory);
     }
@@ -108,15 +116,18 @@ fn made(alloc: Global, calls: u32) -> Result<MemoryDrive, Fail> {
     Ok(MemoryDrive::new(alloc, b"name", 16, calls, &[])?)
 }
 
+/// What a crash may leave of what isn't synced.
+const CHOICES: [CrashChoice; 5] = [
+    CrashChoice::Old,
+    CrashChoice::New,
+    CrashChoice::Half,
+    CrashChoice::Fill(0xff),
+    CrashChoice::Fill(1),
+];
+
 /// Stops a journal's life behind this many calls, in each way, and attaches what is left.
 fn stop(rt: &(impl Abort + Copy), alloc: Global, set: &RangeSet, calls: u32) -> Result<(), Fail> {
-    for choice in [
-        CrashChoice::Old,
-        CrashChoice::New,
-        CrashChoice::Half,
-        CrashChoice::Fill(0xff),
-        CrashChoice::Fill(1),
-    ] {
+    for choice in CHOICES {
         let mut drive = made(alloc, calls)?;
         let mut done = 0;
         let _ = live(alloc, &mut drive, set, &mut done);
@@ -125,34 +136,152 @@ fn stop(rt: &(impl Abort + Copy), alloc: Global, set: &RangeSet, calls: u32) -> 
             Ok(found) => found,
             Err(error) => return Err(Fail::from(error)),
         };
-        let ranges = found.set.as_slice();
-        let is_told = are_behind(ranges, done) || are_behind(ranges, done.saturating_add(1));
-        assert!(rt; is_told, "at {calls}, {choice:?}: {ranges:?} behind {done}");
-        let len = if ranges.first() == Some(&range(2, 4)) {
-            Some(4)
-        } else {
-            None
-        };
-        assert_eq!(rt; found.complete, len, "at {calls}, {choice:?}");
+        let (ranges, complete) = (found.set.as_slice(), found.complete);
+        let is_told = is_behind(ranges, complete, done)
+            || is_behind(ranges, complete, done.saturating_add(1));
+        assert!(rt;
+            is_told,
+            "at {calls}, {choice:?}: {ranges:?}, {complete:?} behind {done}"
+        );
+    }
+    Ok(())
+}
+
+fn two_to_four(alloc: Global) -> Result<RangeSet, Fail> {
+    let mut set = RangeSet::new(alloc);
+    set.reserve(1)?;
+    set.insert(Range { start: 2, end: 4 });
+    Ok(set)
+}
+
+// 261 calls attach; then come 14 of the birth and three ranges, 261 and 4 that complete, 259 of the
+// rebase, and 4.
+#[test]
+fn a_stopped_journal_names_what_was_acknowledged(rt: HostRuntime) -> Result<(), Fail> {
+    let set = two_to_four(rt.alloc())?;
+    for calls in [0, 1, 2, 3, 260] {
+        stop(&rt, rt.alloc(), &set, calls)?;
+    }
+    for calls in 261..278 {
+        stop(&rt, rt.alloc(), &set, calls)?;
     }
     Ok(())
 }
 
 #[test]
-fn a_stopped_journal_names_what_was_acknowledged(rt: HostRuntime) -> Result<(), Fail> {
-    let mut set = RangeSet::new(rt.alloc());
-    set.reserve(1)?;
-    set.insert(Range { start: 2, end: 4 });
-    // 261 calls attach; then come 14 of the birth and three ranges, 259 of the rebase, and 4.
-    for calls in [0, 2, 260, 400, 531] {
+fn a_journal_that_is_stopped_later_names_it_too(rt: HostRuntime) -> Result<(), Fail> {
+    let set = two_to_four(rt.alloc())?;
+    for calls in 535..804 {
         stop(&rt, rt.alloc(), &set, calls)?;
     }
-    for calls in 261..277 {
-        stop(&rt, rt.alloc(), &set, calls)?;
+    Ok(())
+}
+
+/// Completes a bank that is full of slots, stops behind this many calls, and attaches what is left.
+fn stop_full(rt: &impl Abort, alloc: Global, slots: &[u8], calls: u32) -> Result<(), Fail> {
+    for choice in CHOICES {
+        let mut drive = made(alloc, calls)?;
+        write(&mut drive, 96, slots)?;
+        drive.sync(Part::Ranges)?;
+        let is_done = complete_whole(alloc, &mut drive).is_ok();
+        let mut left = drive.crash(choice);
+        let found = match attach(alloc, &mut left) {
+            Ok(found) => found,
+            Err(error) => return Err(Fail::from(error)),
+        };
+        assert_eq!(rt; found.set.as_slice(), [range(0, 5)].as_slice());
+        let is_told = found.complete == Some(5) || !is_done && found.complete.is_none();
+        assert!(rt; is_told, "at {calls}, {choice:?}: {:?}", found.complete);
     }
-    for calls in 532..540 {
-        stop(&rt, rt.alloc(), &set, calls)?;
+    Ok(())
+}
+
+// 2 calls fill the bank, and 261 attach; then come 259 of the rebase.
+#[test]
+fn a_full_bank_is_stopped_while_it_is_completed(rt: HostRuntime) -> Result<(), Fail> {
+    let full = slots(rt.alloc(), 65_534, false)?;
+    for step in 0..17 {
+        stop_full(&rt, rt.alloc(), &full, 2 + 32 * step)?;
     }
+    for calls in [263, 264, 519, 520, 521, 522] {
+        stop_full(&rt, rt.alloc(), &full, calls)?;
+    }
+    Ok(())
+}
+
+/// Asserts that from this call on the ranges part was called so.
+fn are_calls(rt: &impl Abort, drive: &MemoryDrive, from: usize, calls: &[(CallKind, u64, u64)]) {
+    for (i, &(call, at, len)) in calls.iter().enumerate() {
+        let part = Part::Ranges;
+        let want = DriveCall {
+            call,
+            part,
+            at,
+            len,
+        };
+        assert_eq!(rt; drive.call(from.saturating_add(i)), Some(want), "at {i}");
+    }
+}
+
+/// Asserts that an attach begins with this call: both parts are synced, and then there is nothing but a
+/// length and reads.
+fn attaches(rt: &impl Abort, drive: &MemoryDrive, from: usize) {
+    let first = drive.call(from);
+    assert!(rt; first.is_some_and(|call| call.call == CallKind::Sync && call.part == Part::Bytes));
+    let behind = [(CallKind::Sync, 0, 0), (CallKind::Len, 0, 0)];
+    are_calls(rt, drive, from.saturating_add(1), &behind);
+    for i in 3..261 {
+        let call = drive.call(from.saturating_add(i));
+        assert!(rt;
+            call.is_some_and(|call| call.call == CallKind::Read),
+            "at {i}"
+        );
+    }
+}
+
+#[test]
+fn calls_come_in_their_order(rt: HostRuntime) -> Result<(), Fail> {
+    use CallKind::{Sync, Write};
+    let mut drive = made(rt.alloc(), u32::MAX)?;
+    let set = two_to_four(rt.alloc())?;
+    let mut done = 0;
+    assert!(rt; live(rt.alloc(), &mut drive, &set, &mut done).is_ok());
+    assert_eq!(rt; done, 6);
+    attaches(&rt, &drive, 0);
+    let birth = [(Write, 1, 1), (Sync, 0, 0)];
+    are_calls(&rt, &drive, 261, &birth);
+    for (i, at) in [96, 112, 128].iter().enumerate() {
+        let slot = [
+            (Write, at + 1, 15),
+            (Sync, 0, 0),
+            (Write, *at, 1),
+            (Sync, 0, 0),
+        ];
+        are_calls(&rt, &drive, 263 + 4 * i, &slot);
+    }
+    attaches(&rt, &drive, 275);
+    let complete = [
+        (Write, 145, 15),
+        (Sync, 0, 0),
+        (Write, 144, 1),
+        (Sync, 0, 0),
+    ];
+    are_calls(&rt, &drive, 536, &complete);
+    for i in 0..256 {
+        let piece = [(Write, 1_048_640 + 4_096 * i, 4_096)];
+        are_calls(&rt, &drive, 540 + i as usize, &piece);
+    }
+    let flip = [
+        (Sync, 0, 0),
+        (Write, 0, 1),
+        (Sync, 0, 0),
+        (Write, 1_048_705, 15),
+        (Sync, 0, 0),
+        (Write, 1_048_704, 1),
+        (Sync, 0, 0),
+    ];
+    are_calls(&rt, &drive, 796, &flip);
+    assert_eq!(rt; drive.count(), 803);
     Ok(())
 }
 

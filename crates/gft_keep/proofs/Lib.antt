@@ -1,0 +1,7 @@
+mod Changing
+mod Failing
+mod Images
+mod Kept
+mod Opened
+mod Running
+mod Stages

@@ -7,10 +7,9 @@ use Rattle.gft_journal.specs.declared.AttachError.{AttachError}
 use Rattle.gft_journal.specs.declared.AttachError.TheVariants.{Failed, Damaged}
 use Rattle.gft_journal.specs.declared.Damage.{Damage}
 use Rattle.gft_keep.specs.declared.standing.Standing.{Standing}
-use Rattle.gft_keep.specs.declared.standing.Standing.TheVariants.{Whole, Emptying, Torn}
 use Rattle.gft_keep.specs.Image.{IsDamagedBy, IsSound}
 use Rattle.gft_keep.specs.Keep.{IsKeep}
-use Rattle.gft_keep.specs.State.{IsWhole, KeepState}
+use Rattle.gft_keep.specs.State.{IsWhole, KeepState, once_failed}
 use Rattle.gft_keep.specs.Steps.{HasFinished, IsEmpty, Reopens}
 
 -- a drive became a keep of what a read gives, and each image stays as it was
@@ -46,11 +45,6 @@ pub record SameKept (old new : KeepState) : Type 0 where
 pub record Reattached (old new : KeepState) : Type 0 where
   pub whole : IsWhole new
   pub read : new.drive.contents ≡ old.drive.contents
-
--- how a keep stands once a call but `fresh` failed
-abbrev pub once_failed : Standing → Standing
-once_failed Whole = Torn
-once_failed other = other
 
 -- the keep is broken, and shows what it kept before; a drive that tells its contents is not damaged
 pub record NotReattached (old new : KeepState) (error : AttachError) : Type 0 where

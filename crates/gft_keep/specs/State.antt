@@ -4,7 +4,7 @@ use Rattle.gft_range.specs.declared.Range.{Range}
 use Rattle.gft_drive.specs.Words.{DriveState, Image, MayLeave}
 use Rattle.gft_journal.specs.declared.Journal.{Journal}
 use Rattle.gft_keep.specs.declared.standing.Standing.{Standing}
-use Rattle.gft_keep.specs.declared.standing.Standing.TheVariants.{Whole}
+use Rattle.gft_keep.specs.declared.standing.Standing.TheVariants.{Whole, Emptying, Torn}
 
 pub record KeepState : Type 1 where
   pub drive : DriveState
@@ -16,6 +16,12 @@ pub record KeepState : Type 1 where
   pub standing : Standing
   -- of a broken keep it stands for nothing
   pub journal : Journal
+
+-- how a keep stands once a call but `fresh` failed
+abbrev pub once_failed : Standing → Standing
+once_failed Whole = Torn
+once_failed Emptying = Emptying
+once_failed Torn = Torn
 
 -- no change failed
 abbrev pub IsWhole : KeepState → Type 0

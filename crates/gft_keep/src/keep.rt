@@ -96,9 +96,7 @@ impl<D: Drive + Drop> Keep<D> {
                 Ok(())
             }
             Err(error) => {
-                if self.standing == Standing::Whole {
-                    self.standing = Standing::Torn;
-                }
+                self.standing = self.standing.once_failed();
                 Err(error)
             }
         }
@@ -130,7 +128,7 @@ impl<D: Drive + Drop> Keep<D> {
     pub fn broken(&self) -> bool
         ensures { IsTrue result ↔ ((keep_of D.state self.now).standing ≢ Whole) }
     {
-        self.standing != Standing::Whole
+        self.standing.is_broken()
     }
 
     /// Gives the drive back.

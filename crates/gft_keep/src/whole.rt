@@ -66,8 +66,8 @@ impl<D: Drive + Drop> Keep<D> {
         }
     }
 
-    /// Cuts the file to this length, up to which all its bytes are kept, and completes it. If it fails
-    /// the keep is broken.
+    /// Cuts the file to this length, up to which all its bytes are kept, and completes it. A file that is
+    /// complete already is so with at most this length. If it fails the keep is broken.
     pub fn finish(&mut self, len: u64) -> Result<(), Failed>
         requires unbroken { IsUnbroken (keep_of D.state self.old) }
         requires exact { (x : ℕ) → HasOffset (keep_of D.state self.old).ranges x ↔ (x < len) }

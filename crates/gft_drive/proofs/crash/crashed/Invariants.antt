@@ -1,6 +1,5 @@
 use Rattle.std.proofs.Common.{◌≡◌, take, reverse}
 use Rattle.gft_drive.specs.Drive.{Image, part_of}
-use Rattle.gft_drive.specs.declared.crash.CrashChoice.TheVariants.{New}
 use Rattle.gft_drive.proofs.Crashing.{IsCrashed}
 use Rattle.gft_drive.proofs.crash.crashed.Given as goal
 

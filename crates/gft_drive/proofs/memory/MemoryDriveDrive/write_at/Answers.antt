@@ -1,4 +1,4 @@
-use Rattle.std.proofs.Common.{◌≡◌, ◌⊎◌, inl, inr, ℕ, List, length, true, false, ap, sym, subst, ◌∙◌}
+use Rattle.std.proofs.Common.{ℕ, List, length, true, false, ap, subst, ◌∙◌}
 use Rattle.gft_drive.specs.Drive.{Leaves}
 use Rattle.gft_drive.specs.Write.{Torn}
 use Rattle.gft_drive.specs.Replay.{state_after}
