@@ -1,15 +1,13 @@
 -- Which offsets a block books.
-use Rattle.std.proofs.Common.{◌≡◌, ◌≢◌, ◌⊎◌, ℕ, zero, suc, ◌+◌, ◌<◌, ◌≤◌, ◌↔◌, List, [], ◌∷◌, ◌++◌, length, Some, None, Bool, false, refl, sym, ap, ◌∙◌, inl, inr, ⊎_elim, eq-eqb, ne_eqb, arith}
+use Rattle.std.proofs.Common.{◌≡◌, ◌≢◌, ◌⊎◌, ℕ, zero, suc, ◌+◌, ◌<◌, ◌≤◌, ◌↔◌, List, [], ◌∷◌, length, Some, None, Bool, false, refl, sym, ap, ◌∙◌, inl, inr, ⊎_elim, eq-eqb, ne_eqb, arith}
 use Rattle.std.specs.Prelude.{if◌then◌else◌, slice_get}
 use Rattle.std.proofs.lemmas.Option.{none-some}
 use mathlib.Core.Logic.{dite}
 use native.Mathlib.Decide.{ℕ_discrete}
 use Rattle.gft_core.specs.declared.event.CoreEvent.{CoreEvent}
 use Rattle.gft_core.specs.declared.event.CoreEvent.TheVariants.{Block}
-use Rattle.gft_core.specs.declared.taken.TakenBlock.{TakenBlock}
-use Rattle.gft_core.specs.Kept.{first_some, byte_at, kept, Booked}
-use Rattle.gft_core.specs.Machine.{byte_of}
-use Rattle.gft_core.proofs.OptionLemmas.{first_some-none, first_some-assoc, first_some_front, first_some_back, first_some_either}
+use Rattle.gft_core.specs.Kept.{byte_at, kept, Booked}
+use Rattle.gft_core.proofs.OptionLemmas.{first_some_front, first_some_back, first_some_either}
 
 pub byte_at-here : (offset b : ℕ) (bs : List ℕ) (x : ℕ) → x ≡ offset → byte_at offset (b ∷ bs) x ≡ Some b
 byte_at-here offset b bs x e = ap (λ (c : Bool). if c then Some b else byte_at (offset + 1) bs x) (eq-eqb x offset e)
@@ -55,11 +53,3 @@ byte_at-get offset (suc place) (b ∷ bs) =
     byte_at-later offset b bs (offset + suc place) (λ e. omega arith)
     ∙ (let same : offset + suc place ≡ (offset + 1) + place = omega arith in ap (byte_at (offset + 1) bs) same)
     ∙ byte_at-get (offset + 1) place bs
-
--- ---- the byte of a list of blocks
-
-pub byte_of-push : (blocks : List TakenBlock) (block : TakenBlock) (x : ℕ) → byte_of (blocks ++ block ∷ []) x ≡ first_some (byte_of blocks x) (byte_at block.offset block.bytes x)
-byte_of-push [] block x = first_some-none (byte_at block.offset block.bytes x)
-byte_of-push (b ∷ bs) block x =
-    ap (first_some (byte_at b.offset b.bytes x)) (byte_of-push bs block x)
-    ∙ sym (first_some-assoc (byte_at b.offset b.bytes x) (byte_of bs x) (byte_at block.offset block.bytes x))

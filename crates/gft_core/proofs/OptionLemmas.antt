@@ -1,6 +1,6 @@
 -- The first of two options.
-use Rattle.std.proofs.Common.{◌≡◌, ◌⊎◌, ℕ, ◌↔◌, Some, None, refl, sym, ap, inl, inr}
-use Rattle.std.specs.Prelude.{Option}
+use Rattle.std.proofs.Common.{◌≡◌, ◌⊎◌, ℕ, ◌↔◌, Some, None, Bool, true, false, true≢false, refl, sym, ap, inl, inr}
+use Rattle.std.specs.Prelude.{Option, if◌then◌else◌}
 use Rattle.std.proofs.lemmas.Option.{none-some}
 use Rattle.gft_core.specs.Kept.{first_some}
 
@@ -32,3 +32,20 @@ pub same_options : (a b : Option ℕ) → ((v : ℕ) → a ≡ Some v → b ≡ 
 same_options (Some v) b f g = sym (f v refl)
 same_options None None f g = refl
 same_options None (Some v) f g = let w = g v refl in absurd (none-some w.0 w.1)
+
+pub if_true : (b : Bool) (o : Option ℕ) (v : ℕ) → (if b then o else None) ≡ Some v → b ≡ true
+if_true true o v e = refl
+if_true false o v e = absurd (none-some v e)
+
+pub if_value : (b : Bool) (o : Option ℕ) (v : ℕ) → (if b then o else None) ≡ Some v → o ≡ Some v
+if_value true o v e = e
+if_value false o v e = absurd (none-some v e)
+
+pub if_holds : (b : Bool) (o : Option ℕ) (v : ℕ) → b ≡ true → o ≡ Some v → (if b then o else None) ≡ Some v
+if_holds true o v is e = e
+if_holds false o v is e = absurd (true≢false (sym is))
+
+-- a number is there, or none is
+pub some_or_none : (o : Option ℕ) → ((v : ℕ) × (o ≡ Some v)) ⊎ (o ≡ None)
+some_or_none (Some v) = inl (v, refl)
+some_or_none None = inr refl

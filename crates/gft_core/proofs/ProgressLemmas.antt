@@ -34,7 +34,7 @@ broken_stays transfer e broken n unbroken =
 
 -- ---- events that count nothing
 
-counts_block : (lane channel offset : ℕ) (bytes : List ℕ) (unanswered : Bool) (transfer : List CoreEvent) (count : Count) → CountsTransfer transfer count
+pub counts_block : (lane channel offset : ℕ) (bytes : List ℕ) (unanswered : Bool) (transfer : List CoreEvent) (count : Count) → CountsTransfer transfer count
     → CountsTransfer (Block lane channel offset bytes unanswered ∷ transfer) count
 counts_block lane channel offset bytes unanswered transfer count c =
     record {
@@ -49,7 +49,7 @@ Tells-block lane channel offset bytes unanswered events Idle t = t
 Tells-block lane channel offset bytes unanswered events (Counting count) t = (t.0, counts_block lane channel offset bytes unanswered (since events) count t.1)
 Tells-block lane channel offset bytes unanswered events Failed t = broken_stays (since events) (Block lane channel offset bytes unanswered) t
 
-counts_mark : (transfer : List CoreEvent) (count : Count) → CountsTransfer transfer count → CountsTransfer (Mark ∷ transfer) count
+pub counts_mark : (transfer : List CoreEvent) (count : Count) → CountsTransfer transfer count → CountsTransfer (Mark ∷ transfer) count
 counts_mark transfer count c =
     record {
       total = first_some-none (total transfer) ∙ c.total;
@@ -123,7 +123,7 @@ pub else_none : (b : Bool) (error : EodError) (other : Option EodError) → (if 
 else_none true error other e = absurd (none-some error (sym e))
 else_none false error other e = e
 
-first_is : (known : Option ℕ) (taken new : ℕ) → totals_refusal known taken new ≡ None → first_some known (Some new) ≡ Some new
+pub first_is : (known : Option ℕ) (taken new : ℕ) → totals_refusal known taken new ≡ None → first_some known (Some new) ≡ Some new
 first_is None taken new fits = refl
 first_is (Some k) taken new fits =
     dite (ℕ_discrete k new)

@@ -3,25 +3,29 @@ use Rattle.std.specs.Prelude.{◌≡◌, ℕ, ◌+◌, ◌<◌, ◌≤◌, ◌�
 use Rattle.std.specs.Prelude.{Option, Some, None, Bool, true, false}
 use Rattle.gft_eod.specs.declared.TheConstants.{MAX_EODS}
 use Rattle.gft_core.specs.declared.event.CoreEvent.{CoreEvent}
-use Rattle.gft_core.specs.declared.event.CoreEvent.TheVariants.{Eod, Eof, Lost, Fault, Abort, Fresh, Resume}
+use Rattle.gft_core.specs.declared.event.CoreEvent.TheVariants.{Eod, Eof, Lost, Fault, Abort, Crash}
+use Rattle.gft_core.specs.declared.event.CoreEvent.TheVariants.{Fresh, Resume}
 use Rattle.gft_core.specs.Kept.{first_some, Booked}
 
--- the events of the last transfer: those since the last Fresh or Resume
+-- the events of the last transfer: those since the last Fresh, Resume or Crash
 abbrev pub since : List CoreEvent → List CoreEvent
 since [] = []
 since (Fresh ∷ older) = []
 since (Resume list ∷ older) = []
+since (Crash image ∷ older) = []
 since (e ∷ older) = e ∷ since older
 
--- there is a Fresh or a Resume
+-- there is a Fresh or a Resume, and no Crash behind it
 abbrev pub begun : List CoreEvent → Bool
 begun [] = false
 begun (Fresh ∷ older) = true
 begun (Resume list ∷ older) = true
+begun (Crash image ∷ older) = false
 begun (e ∷ older) = begun older
 
 abbrev pub total_in : CoreEvent → Option ℕ
 total_in (Eof total) = Some total
+total_in (Crash image) = None
 total_in e = None
 
 -- the total of the first Eof
@@ -31,6 +35,7 @@ total (e ∷ older) = first_some (total older) (total_in e)
 
 abbrev pub eods_in : CoreEvent → ℕ
 eods_in (Eod lane) = 1
+eods_in (Crash image) = 0
 eods_in e = 0
 
 -- how many Eods there are
@@ -44,6 +49,7 @@ Passes n (Eof total) = total ≡ n
 Passes n Lost = ⊥
 Passes n Fault = ⊥
 Passes n Abort = ⊥
+Passes n (Crash image) = ⊥
 Passes n e = Unit {0}
 
 abbrev pub AllPass : ℕ → List CoreEvent → Type 0

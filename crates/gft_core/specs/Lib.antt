@@ -1,6 +1,9 @@
 pub mod Done
+pub mod Held
 pub mod Kept
 pub mod Laws
+pub mod Legal
 pub mod Machine
 pub mod Progress
+pub mod Sender
 pub mod Words

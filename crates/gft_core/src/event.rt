@@ -1,3 +1,4 @@
+use crate::image::Image;
 use crate::octets::Octets;
 use gft_range::RangeSet;
 
@@ -29,6 +30,10 @@ pub enum CoreEvent {
     Abort,
     /// A range marker was made.
     Mark,
+    /// The server stopped, and began again with what the drive then had.
+    Crash {
+        image: Image,
+    },
     /// A transfer begins, and what was kept is forgotten.
     Fresh,
     /// A transfer begins that goes on with what is kept; the sender leaves these ranges out.

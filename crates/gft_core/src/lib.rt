@@ -2,10 +2,12 @@
 //! its transfer is done, with no file, no lock and no thread.
 //!
 //! Begin with [`CoreEvent`] and [`Core::step`]. [`laws::honest_law`] says what a transfer that is done
-//! has kept of what was sent. Blocks, EOFs and EODs are those of extended block mode (GFD.20).
+//! has kept of what was sent, and [`laws::crash_law`] what stays over crashes and restarts. Blocks, EOFs
+//! and EODs are those of extended block mode (GFD.20).
 #![tactic(auto)]
 
 mod event;
+mod image;
 pub mod laws;
 mod machine;
 mod octets;
@@ -15,5 +17,6 @@ mod taken;
 mod tests;
 
 pub use event::CoreEvent;
+pub use image::Image;
 pub use machine::Core;
 pub use octets::Octets;

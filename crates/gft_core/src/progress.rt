@@ -1,4 +1,4 @@
-ghost use Rattle.std.specs.Prelude.{◌≡◌, ℕ, ◌↔◌, List, [], ◌∷◌, IsTrue};
+ghost use Rattle.std.specs.Prelude.{ℕ, ◌↔◌, List, ◌∷◌, IsTrue};
 ghost use Rattle.gft_core.specs.declared.event.CoreEvent.{CoreEvent};
 ghost use Rattle.gft_core.specs.declared.event.CoreEvent.TheVariants as event;
 ghost use Rattle.gft_core.specs.Progress.{Tells, IsSoundProgress, HasMet};
