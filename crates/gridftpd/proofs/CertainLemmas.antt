@@ -10,7 +10,7 @@ use Rattle.gft_eod.specs.declared.EodError.{EodError}
 use Rattle.gridftpd.proofs.CountLemmas.{done_is_counted}
 use Rattle.gridftpd.specs.declared.outcome.Outcome.{Outcome}
 use Rattle.gridftpd.specs.declared.outcome.Outcome.TheVariants as outcome
-use Rattle.gridftpd.specs.Cause.{told_by, GoesOn, IsCause, IsLost, HasHole, IsFirstMissing, IsMiscounted, NeedsMoreRanges, EndsBad}
+use Rattle.gridftpd.specs.Cause.{told_by, EndsNothing, IsCause, IsLost, HasHole, IsFirstMissing, IsMiscounted, NeedsMoreRanges, EndsBad}
 use Rattle.std.specs.Io.KnownBytes.{Appends}
 use Rattle.gridftpd.specs.Line.{text_of}
 use Rattle.gridftpd.specs.Drain.{FillsRanges, IsTaken, IsGood, IsRefusal}
@@ -86,14 +86,14 @@ module _ (bytes stream rest : List ℕ) (all : bytes ≡ stream ++ rest) (good :
       let more = grown in
       done_is_counted (told_by stream) more.0 end wrong.earlier wrong.later wrong.total error (subst (λ (list : List Arrival). SaysDone list end) more.1 says) wrong.split wrong.refused
 
-  not_too_long : ((n : ℕ) → n < length stream → GoesOn (told_by (take n stream))) → length stream ≡ MAX_BYTES → ⊥
+  not_too_long : ((n : ℕ) → n < length stream → EndsNothing (told_by (take n stream))) → length stream ≡ MAX_BYTES → ⊥
   not_too_long in_time long =
       let n = good.soon.0 in
       let lt : n < length stream = omega (arith, good.soon.1) in
       let same : take n bytes ≡ take n stream = ap (take n) all ∙ take-append-le n stream rest (omega arith) in
       unfinished_not_ended (told_by (take n stream)) (in_time n lt).unfinished (subst (λ (list : List ℕ). HasEnded (told_by list)) same good.soon.2)
 
-  no_refusal : (ending : Outcome) → IsRefusal ending → IsCause ending stream (Some rest) → ((n : ℕ) → n < length stream → GoesOn (told_by (take n stream))) → NeedsMoreRanges stream × (ending ≡ outcome.RangesFull MAX_RANGES)
+  no_refusal : (ending : Outcome) → IsRefusal ending → IsCause ending stream (Some rest) → ((n : ℕ) → n < length stream → EndsNothing (told_by (take n stream))) → NeedsMoreRanges stream × (ending ≡ outcome.RangesFull MAX_RANGES)
   no_refusal outcome.Complete is cause in_time = absurd is
   no_refusal (outcome.Lost taken) is cause in_time = absurd (not_lost taken cause.1)
   no_refusal (outcome.Hole total number missing) is cause in_time = absurd (not_a_hole total number missing cause.1)

@@ -19,7 +19,7 @@ use Rattle.gft_eblock.proofs.Lemmas.{IsUnfinished-append, IsUnfinished-data_at, 
 use Rattle.gft_eod.specs.Words.{eof_refusal}
 use Rattle.gridftpd.proofs.CountLemmas.{Counts-same, Counts-eof, Counts-eod}
 use Rattle.gridftpd.specs.declared.intake.Intake.{Intake}
-use Rattle.gridftpd.specs.Cause.{GoesOn, HasNoBad}
+use Rattle.gridftpd.specs.Cause.{EndsNothing, HasNoBad}
 use Rattle.gridftpd.specs.Totals.{AreAgreed}
 use Rattle.gridftpd.specs.Follows.{Books, Counts, Follows, HasKeptIn}
 use Rattle.gridftpd.proofs.RangeLemmas.{HasNoBad-append, HasNoBad-data_at, agreed_same, few_early}
@@ -32,9 +32,9 @@ use Rattle.gridftpd.specs.Drain.{IsTaken}
 use Rattle.gridftpd.specs.Events.{events_of}
 
 -- a front of what is wanted ends nothing
-goes_on : (told : List Arrival) (set : List Range) (offset : ℕ) (values : List ℕ) (came : List Arrival) → Books told set → IsUnfinished told → AreAgreed (totals told) → came ≡ data_at offset values → GoesOn (told ++ came)
+goes_on : (told : List Arrival) (set : List Range) (offset : ℕ) (values : List ℕ) (came : List Arrival) → Books told set → IsUnfinished told → AreAgreed (totals told) → came ≡ data_at offset values → EndsNothing (told ++ came)
 goes_on told set offset values came books unfinished agreed is =
-    subst (λ (brought : List Arrival). GoesOn (told ++ brought)) (sym is) (record {
+    subst (λ (brought : List Arrival). EndsNothing (told ++ brought)) (sym is) (record {
       unfinished = IsUnfinished-append told (data_at offset values) unfinished (IsUnfinished-data_at offset values);
       agreed = agreed_same told (data_at offset values) agreed (totals-data_at offset values);
       few = few_early told set offset values books;
@@ -42,7 +42,7 @@ goes_on told set offset values came books unfinished agreed is =
 
 -- no shorter front of no more than was wanted ends the intake
 pub in_time_more : {D : Type 0} (state : D → DriveState) (stream piece : List ℕ) (intake : Intake D) → Follows state 0 stream intake → length piece ≤ wanted intake.channel
-    → (n : ℕ) → n < length (stream ++ piece) → GoesOn (arrivals 0 (take n (stream ++ piece)))
+    → (n : ℕ) → n < length (stream ++ piece) → EndsNothing (arrivals 0 (take n (stream ++ piece)))
 in_time_more state stream piece intake follows fits n lt =
     elim (cases_lt n (length stream)) [
       | inl before ↦ rw (take-append-le n stream piece (omega arith)) (follows.in_time n before)

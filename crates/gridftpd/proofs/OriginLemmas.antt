@@ -6,7 +6,7 @@ use Rattle.std.proofs.lemmas.Option.{none-some}
 use Rattle.gft_eblock.specs.Words.{Arrival, At, Eof, Eod, Bad, eods, arrivals, HasEnded}
 use Rattle.gft_core.specs.declared.CoreEvent.{CoreEvent}
 use Rattle.gft_core.specs.declared.CoreEvent.TheVariants as event
-use Rattle.gft_core.specs.Words.{byte_at, generation, Done, AllCarry, CarriesSource}
+use Rattle.gft_core.specs.Words.{byte_at, generation, Done, AllCarry, CarriesSource, HasNoCrash}
 use Rattle.gft_core.proofs.Lemmas.{honest, sent_where_booked, byte_at-here, byte_at-later}
 use Rattle.gft_drive.specs.Words.{DriveState}
 use Rattle.gft_eblock.proofs.Lemmas.{arrivals-ended}
@@ -51,6 +51,14 @@ carry-after source before (Eof total ∷ list) all truthful = carry-after source
 carry-after source before (Eod ∷ list) all truthful = carry-after source (event_of Eod ∷ before) list (all, nothing_carried source) truthful
 carry-after source before (Bad refusal ∷ list) all truthful = carry-after source (event_of (Bad refusal) ∷ before) list (all, nothing_carried source) truthful
 
+-- arrivals are no crashes
+no_crash-after : (before : List CoreEvent) (list : List Arrival) → HasNoCrash (generation before) → HasNoCrash (generation (events_after before list))
+no_crash-after before [] none = none
+no_crash-after before (At offset value ∷ list) none = no_crash-after (event_of (At offset value) ∷ before) list none
+no_crash-after before (Eof total ∷ list) none = no_crash-after (event_of (Eof total) ∷ before) list none
+no_crash-after before (Eod ∷ list) none = no_crash-after (event_of Eod ∷ before) list none
+no_crash-after before (Bad refusal ∷ list) none = no_crash-after (event_of (Bad refusal) ∷ before) list none
+
 -- lists with the same element at each place
 same_gets : (a b : List ℕ) → ((x : ℕ) → slice_get a x ≡ slice_get b x) → a ≡ b
 same_gets [] [] same = refl
@@ -68,10 +76,11 @@ file_is_source source file list sender done is_kept =
     let bounds = says.in_bounds in
     let some : 0 < eods list = omega (arith, says.met, bounds.0) in
     let fresh : List CoreEvent = event.Fresh ∷ [] in
-    let law = honest source (events_of list)
+    let no_crash = no_crash-after fresh list tt in
+    let law = honest source (events_of list) no_crash
     (record {
       carry = carry-after source fresh list (tt, nothing_carried source) sender.truthful;
-      cover = λ x lt. let byte = arrives_kept list x (sender.whole some x lt) in sent_where_booked (generation (events_of list)) x byte.0 byte.1;
+      cover = λ x lt. let byte = arrives_kept list x (sender.whole some x lt) in sent_where_booked (events_of list) no_crash x byte.0 byte.1;
     })
     done in
     same_gets file source (λ x. sym (is_kept x) ∙ law x)

@@ -60,7 +60,7 @@ HasRangesAtMost most list =
 
 -- nothing that ends an intake is among the arrivals: no EOD, no bad header, no total that is refused, and at
 -- most one range more than may be kept, which the rest of its piece may still join
-pub record GoesOn (list : List Arrival) : Type 0 where
+pub record EndsNothing (list : List Arrival) : Type 0 where
   pub unfinished : IsUnfinished list
   pub agreed : AreAgreed (totals list)
   pub few : HasRangesAtMost (MAX_RANGES + 1) list

@@ -7,7 +7,7 @@ use Rattle.gft_core.specs.Words.{Done}
 use Rattle.gft_drive.specs.Words.{DriveState, Goes, Image}
 use Rattle.gft_drive.specs.declared.TheConstants.{MAX_RANGES}
 use Rattle.gft_eblock.specs.declared.TheConstants.{MAX_BYTES}
-use Rattle.gridftpd.specs.Cause.{told_by, GoesOn, IsCause, NeedsMoreRanges}
+use Rattle.gridftpd.specs.Cause.{told_by, EndsNothing, IsCause, NeedsMoreRanges}
 use Rattle.gridftpd.specs.Events.{events_of}
 use Rattle.gridftpd.specs.Images.{FindsDamage, HoldsAtEnd}
 use Rattle.gridftpd.specs.Line.{text_of, complete_text, damaged_text, drive_failed_text, out_of_memory_text}
@@ -23,7 +23,7 @@ use Rattle.gridftpd.specs.declared.status.Status.TheVariants as status
 pub record IsTaken (before after : Option (List ℕ)) (stream : List ℕ) : Type 0 where
   pub consumed : Consumes before after stream
   pub few : length stream ≤ MAX_BYTES
-  pub in_time : (n : ℕ) → n < length stream → GoesOn (told_by (take n stream))
+  pub in_time : (n : ℕ) → n < length stream → EndsNothing (told_by (take n stream))
 
 -- the data is the source, and no byte more
 abbrev pub IsFile : List ℕ → Image → Type 0

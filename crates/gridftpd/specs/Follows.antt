@@ -12,7 +12,7 @@ use Rattle.gft_keep.specs.Words.{IsOpen, keep_of}
 use Rattle.gft_eod.specs.Words.{Count}
 use Rattle.gridftpd.specs.Events.{events_of}
 use Rattle.gridftpd.specs.Totals.{first_of, AreAgreed}
-use Rattle.gridftpd.specs.Cause.{told_by, GoesOn, HasNoBad}
+use Rattle.gridftpd.specs.Cause.{told_by, EndsNothing, HasNoBad}
 use Rattle.gridftpd.specs.declared.intake.Intake.{Intake}
 
 -- at each offset of the set the file has the kept byte
@@ -46,4 +46,4 @@ pub record Follows {D : Type 0} (state : D → DriveState) (number : ℕ) (strea
   pub taken : intake.channel.taken ≡ length stream
   pub short : length stream < MAX_BYTES
   pub unfinished : number ≡ 0 → IsUnfinished told
-  pub in_time : (n : ℕ) → n < length stream → GoesOn (told_by (take n stream))
+  pub in_time : (n : ℕ) → n < length stream → EndsNothing (told_by (take n stream))
