@@ -98,11 +98,11 @@ module _ {D : Type 0} (state : D → DriveState) (number : ℕ) (stream : List �
         one_read = short;
         each = of_each new.drive (HoldsArrived stream (stream ++ piece)) moves.keep.lawful (λ image some may.
             let came = came_by (StoresSome offset bytes) k new follows.is_open.unbroken moves image some may in
-            let old = λ (x : ℕ) (covered : Covers came.from.ranges x). let n = named_in (stream ++ piece) more grown came.from came.exact x covered in (n.0, n.1, came.step.kept x n.0 n.2) in
+            let old = λ (x : ℕ) (covered : Covers came.from.ranges x). let n = named_in (stream ++ piece) more grown came.from came.exact x covered in (n.0, n.1, came.by.kept x n.0 n.2) in
             record {
               sound = sound_of new moves.keep some image may;
-              held = λ x v has. came.step.kept x v (holds_front stream [] (told ∙ sym (append-nil follows.told)) no_arrival came.from came.exact x v has);
-              named = λ x covered. elim (came.step.added x covered) [
+              held = λ x v has. came.by.kept x v (holds_front stream [] (told ∙ sym (append-nil follows.told)) no_arrival came.from came.exact x v has);
+              named = λ x covered. elim (came.by.added x covered) [
                 | inl before ↦ old x before
                 | inr new_one ↦ elim (HasOffset-or k.ranges x) [
                   | inl had ↦ old x ((came.exact.ranges x).1 had)
@@ -150,8 +150,8 @@ module _ {D : Type 0} (state : D → DriveState) (number : ℕ) (stream : List �
           let came = came_by (Finishes len) k new follows.is_open.unbroken moves image some may in
           record {
             sound = sound_of new moves.keep some image may;
-            held = λ x v has. came.step.stays.held x v (holds_front stream [] all no_arrival came.from came.exact x v has);
-            named = λ x covered. let n = named_in stream [] all came.from came.exact x ((came.step.stays.ranges x).0 covered) in (n.0, n.1, came.step.stays.held x n.0 n.2);
+            held = λ x v has. came.by.stays.held x v (holds_front stream [] all no_arrival came.from came.exact x v has);
+            named = λ x covered. let n = named_in stream [] all came.from came.exact x ((came.by.stays.ranges x).0 covered) in (n.0, n.1, came.by.stays.held x n.0 n.2);
           })
 
   whole_file : (len : ℕ) (new : KeepState) → MovesBy (Finishes len) (keep_of state intake.keep) new → Finished len (keep_of state intake.keep) new → told_by stream ≡ follows.told → ((x : ℕ) → HasOffset (keep_of state intake.keep).ranges x ↔ (x < len))

@@ -38,17 +38,17 @@ held_exact k image exact x had =
     record { covered = covered; within = exact.sound.within x covered; byte = refl }
 
 -- an image of now comes by the step of the last call from an image of before, which is what a read gave then
-record CameBy (step : Image → Image → Type 0) (k : KeepState) (image : Image) : Type 0 where
+pub record CameBy (step : Image → Image → Type 0) (k : KeepState) (image : Image) : Type 0 where
   pub from : Image
   pub exact : IsExact k from
-  pub step : step from image
+  pub by : step from image
 
 pub came_by : (step : Image → Image → Type 0) (k new : KeepState) → IsUnbroken k → MovesBy step k new → (image : Image) → IsSome new.drive.contents → MayLeave new.drive image → CameBy step k image
 came_by step k new unbroken moves image some may =
     let some_before = moves.time.goes.tells.0 some in
     let since = moves.keep.lawful.since k.drive.moment new.drive.moment image moves.time.later (le_refl new.drive.moment) may in
     let came = moves.any_moment some_before image since in
-    record { from = came.0; exact = exact_of k unbroken came.0 some_before came.1; step = came.2 }
+    record { from = came.0; exact = exact_of k unbroken came.0 some_before came.1; by = came.2 }
   where
     le_refl : (n : ℕ) → n ≤ n
     le_refl n = omega arith

@@ -9,10 +9,10 @@ use Rattle.gft_keep.specs.Words.{Attached, CountsFault, Emptied, Empties, IsOpen
 use Rattle.gridftpd.specs.declared.outcome.Outcome.{Outcome}
 use Rattle.gridftpd.specs.declared.outcome.Outcome.TheVariants as outcome
 use Rattle.gridftpd.specs.Cause.{IsCause}
-use Rattle.gridftpd.specs.Drain.{DriveIsBlamed, InputIsBlamed}
-use Rattle.gridftpd.specs.Images.{FindsDamage, HoldsAtEnd, HoldsTaken}
+use Rattle.gridftpd.specs.Drain.{DriveIsBlamed, InputIsBlamed, IsTaken}
+use Rattle.gridftpd.specs.Images.{FindsDamage, HoldsAtEnd, HoldsTaken, IsStored}
 use Rattle.gridftpd.specs.Turn.{IsEndsOutcome, IsRunsOutcome, IsTurnsOutcome, outcome_of}
-use Rattle.gridftpd.proofs.EndLemmas.{nothing_met}
+use Rattle.gridftpd.proofs.EndLemmas.{nothing_met, nothing_taken}
 use Rattle.gridftpd.proofs.KeepLemmas.{exact_read}
 
 reopens_same : (image : Image) → Reopens image image
@@ -23,6 +23,10 @@ reopens_same image = record {
 
 le_same : (n : ℕ) → n ≤ n
 le_same n = omega arith
+
+-- a drive that was not called leaves what it left
+pub leaves_itself : (drive : DriveState) → LeavesBy (λ from image. image ≡ from) drive drive
+leaves_itself drive some image may = (image, may, refl)
 
 -- an image that stays is one that was not emptied
 rests_empties : (old new : DriveState) → Rests old new → LeavesBy Empties old new
@@ -73,8 +77,8 @@ refused_holds (attach.Damaged damage) old new rests = rests.images
 pub refused_damage : (error : AttachError) (old new : DriveState) → NotAttached old error new → FindsDamage (outcome_of error) old
 refused_damage attach.Failed old new refused = tt
 refused_damage attach.OutOfMemory old new refused = tt
-refused_damage (attach.Damaged damage) old new refused read is =
-    (λ sound. refused.sound read is sound damage refl, (damage, refused.damage damage refl read is))
+refused_damage (attach.Damaged damage) old new refused =
+    λ read is. (λ sound. refused.sound read is sound damage refl, (damage, refused.damage damage refl read is))
 
 pub refused_blames : (error : AttachError) (before now : ℕ) → CountsFault error before now → DriveIsBlamed (outcome_of error) before now
 refused_blames attach.Failed before now counts = counts
@@ -90,6 +94,17 @@ pub refused_not_complete : (error : AttachError) → outcome_of error ≢ outcom
 refused_not_complete attach.Failed same = cc
 refused_not_complete attach.OutOfMemory same = cc
 refused_not_complete (attach.Damaged damage) same = cc
+
+-- what `drain` says of it
+pub refused_caused : (error : AttachError) (ending : Outcome) (left : Option (List ℕ)) (old new : DriveState) → ending ≡ outcome_of error → NotAttached old error new
+    → (stream : List ℕ) × IsTaken left left stream × IsCause ending stream left × HoldsAtEnd ending stream old new × (ending ≡ outcome.Complete → IsStored stream new)
+refused_caused error ending left old new is refused = (
+  [],
+  nothing_taken left,
+  subst (λ (e : Outcome). IsCause e [] left) (sym is) (refused_cause error left),
+  subst (λ (e : Outcome). HoldsAtEnd e [] old new) (sym is) (refused_holds error old new refused.rests),
+  λ same. absurd (refused_not_complete error (sym is ∙ same)),
+)
 
 -- ---- an intake that was run
 

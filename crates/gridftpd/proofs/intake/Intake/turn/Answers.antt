@@ -96,3 +96,6 @@ returns-in-Err-Failed-clause-caused g c stream left follows =
       torn_from state stream old c.args.piece.now c.in-Ok.step _ follows c.in-Ok.ensures.ok (c.in-Ok.ensures.wanted c.requires.wanted) c.requires.room
           c.in-Piece.offset c.in-Piece.bytes is (keep_of state c.store.new.self) awaits c.requires.one_read c.store.ensures.any_moment,
     )
+
+pub returns-in-Ok-store-clause-ended : goal.returns-in-Ok-store-clause-ended
+returns-in-Ok-store-clause-ended g c = (λ no. cc no, λ done. ?)
