@@ -6,17 +6,19 @@ use Rattle.gft_base.specs.declared.TheConstants.{LIMIT}
 use Rattle.gft_range.specs.declared.Range.{Range}
 use Rattle.gft_range.specs.Words.{HasOffset, IsNormal}
 use Rattle.gft_drive.specs.declared.Part.TheVariants.{Bytes, Ranges}
-use Rattle.gft_drive.specs.Words.{Covers, DriveState, Elapses, Image, IsBorn, IsComplete, IsLawful, IsSynced, MayLeave, ReadsBy}
-use Rattle.gft_drive.proofs.Lemmas.{tells_some, told_before, told_some}
+use Rattle.gft_drive.specs.Words.{Covers, DriveState, Elapses, Image, IsBorn, IsComplete, IsLawful, IsSynced, MayLeave, ReadsBy, Unchanged}
+use Rattle.gft_drive.proofs.Lemmas.{synced_looked, tells_some, told_before, told_some}
 use Rattle.gft_journal.specs.declared.Journal.{Journal}
 use Rattle.gft_keep.specs.declared.standing.Standing.{Standing}
 use Rattle.gft_keep.specs.declared.standing.Standing.TheVariants.{Whole, Emptying, Torn}
 use Rattle.gft_keep.specs.Changing.{EmptiesSoundly, IsFinished, IsReady, IsReopened, MayFinish, ReadyBy, Soundly}
 use Rattle.gft_keep.specs.Image.{Holds, IsSound}
 use Rattle.gft_keep.specs.Keep.{IsEmptying, IsExact, IsKeep, IsUnbroken, MovesBy, StandsAs, StandsWhole}
-use Rattle.gft_keep.specs.State.{KeepState}
+use Rattle.gft_keep.specs.Calls.{OnlyLooks}
+use Rattle.gft_keep.specs.State.{IsWhole, KeepState}
 use Rattle.gft_keep.specs.Steps.{Empties, Finishes, IsEmpty, Reopens, StaysHeld}
 use Rattle.gft_keep.specs.Tearing.{EachSince, NamesSet, TornFrom}
+use Rattle.gft_keep.specs.Writing.{AreThere}
 use Rattle.gft_keep.proofs.Failing.{exact_holds, torn_is_keep, torn_keep}
 use Rattle.gft_keep.proofs.Images.{iff_then}
 use Rattle.gft_keep.proofs.Running.{ready_exact, since_leaves, since_now, since_says}
@@ -66,7 +68,7 @@ ready_stands keep ready exact = record {
 }
 
 -- what is told now came by the step
-read_from : (step : Image → Image → Type 0) (old new : DriveState) → Elapses old new → ReadsBy step old new → (image : Image) → new.contents ≡ Some image → (from : Image) × (old.contents ≡ Some from) × step from image
+pub read_from : (step : Image → Image → Type 0) (old new : DriveState) → Elapses old new → ReadsBy step old new → (image : Image) → new.contents ≡ Some image → (from : Image) × (old.contents ≡ Some from) × step from image
 read_from step old new time reads image told =
     let was = told_before old new image time.goes told in
     let last = reads was.0 was.1 in
@@ -171,3 +173,38 @@ pub broken_is_keep : (step : Image → Image → Type 0) (old : KeepState) (driv
     → EachSince (Soundly step) old.drive drive → IsKeep (torn_keep old drive journal)
 broken_is_keep step old drive journal stays is lawful since = torn_is_keep old drive journal 0 [] is.facts lawful
     (since_says (Soundly step) (TornFrom old.ranges 0 []) old.drive drive since (λ read image told now. stays_torn old read image (exact_read old is read told) (stays read image now.done) now.sound))
+
+-- the file has what is kept
+pub keep_there : (keep : KeepState) → IsUnbroken keep → AreThere keep.ranges keep.drive
+keep_there keep is read told x has = let exact = exact_read keep is read told in exact.sound.within x ((exact.ranges x).1 has)
+
+-- a keep that was looked at
+abbrev pub looked_keep : KeepState → DriveState → KeepState
+looked_keep old drive = record { drive = drive; ranges = old.ranges; complete = old.complete; is_born = old.is_born; standing = old.standing; journal = old.journal }
+
+looked_stands : (old : KeepState) (drive : DriveState) → IsLawful drive → Unchanged old.drive drive → StandsWhole old → StandsWhole (looked_keep old drive)
+looked_stands old drive lawful looks stands = record {
+  journal = record {
+    matches = λ read told. stands.journal.matches read (sym looks.read ∙ told);
+    synced = synced_looked Ranges old.drive drive lawful looks stands.journal.synced;
+  };
+  each = λ some image left.
+      let was = looks.no_more image (lawful.since old.drive.moment drive.moment image looks.time.later (omega arith) left) in
+      let exact = stands.each (looks.time.goes.tells.0 some) image was in
+      record { read = looks.read ∙ exact.read; ranges = exact.ranges; complete = exact.complete; born = exact.born; sound = exact.sound };
+}
+
+pub only_looks : (old : KeepState) (drive : DriveState) → IsWhole old → IsLawful drive → Unchanged old.drive drive → OnlyLooks old (looked_keep old drive)
+only_looks old drive whole lawful looks = record {
+  keep = λ keep. record {
+    lawful = lawful;
+    normal = keep.normal;
+    few = keep.few;
+    in_limit = keep.in_limit;
+    complete = keep.complete;
+    stands = subst (λ (s : Standing). StandsAs s (looked_keep old drive)) (sym whole) (looked_stands old drive lawful looks (subst (λ (s : Standing). StandsAs s old) whole keep.stands));
+  };
+  whole = whole;
+  same = record { ranges = refl; complete = refl; is_born = refl };
+  drive = looks;
+}

@@ -1,7 +1,13 @@
+mod Appends
 mod Changing
+mod Counts
 mod Failing
+mod Filling
+mod Fronts
+mod Full
 mod Images
 mod Kept
 mod Opened
 mod Running
 mod Stages
+mod Blocks

@@ -1,6 +1,7 @@
 -- Calls of a drive, one after another, by what each image since the first is.
 use Rattle.std.proofs.Common.{◌≡◌, ◌⊎◌, ⊎_elim, ℕ, ◌≤◌, List, Some, IsSome, refl, sym, ◌∙◌, subst, arith}
-use Rattle.gft_drive.specs.Words.{DriveState, Elapses, Image, IsLawful, IsSynced, LeavesBy, MayLeave, Unchanged}
+use Rattle.gft_drive.specs.declared.Part.{Part}
+use Rattle.gft_drive.specs.Words.{DriveState, Elapses, Image, IsLawful, IsSynced, Leaves, LeavesBy, MayLeave, OnPart, Unchanged, part_of}
 use Rattle.gft_drive.proofs.Lemmas.{both_exact, elapses_refl, elapses_trans, tells_some, told_some}
 use Rattle.gft_journal.specs.Words.{Rests}
 use Rattle.gft_journal.specs.declared.Journal.{Journal}
@@ -52,3 +53,21 @@ Rests-looked old mid new lawful_mid lawful_new rests looks = record {
 -- a ready drive leaves what a read gives
 pub ready_exact : (journal : Journal) (drive : DriveState) → IsReady journal drive → (read image : Image) → drive.contents ≡ Some read → MayLeave drive image → image ≡ read
 ready_exact journal drive ready read image told left = both_exact drive read told ready.synced ready.stands.synced image left
+
+-- two calls in a row, where what the second came from is known
+pub leaves_then : (part : Part) (first second both : List ℕ → List ℕ → Type 0) (old mid new : DriveState) → IsLawful mid → Leaves part first old mid → Leaves part second mid new → Elapses old mid → Elapses mid new
+    → ((xs ys : List ℕ) → first xs ys → both xs ys) → ((from d : Image) (zs : List ℕ) → IsSome old.contents → MayLeave old from → MayLeave mid d → first (part_of part from) (part_of part d) → second (part_of part d) zs → both (part_of part from) zs) → Leaves part both old new
+leaves_then part first second both old mid new lawful one two before after weaker join some image left = ⊎_elim
+    (λ was. let from = one some image was in (from.0, from.1, record { changed = weaker _ _ from.2.changed; kept = from.2.kept }))
+    (λ during.
+    let d = two (before.goes.tells.1 some) image during in
+    let from = one some d.0 (lawful.since old.moment mid.moment d.0 before.later (omega arith) d.1) in (
+      from.0,
+      from.1,
+      record { changed = join from.0 d.0 _ some from.1 d.1 from.2.changed d.2.changed; kept = d.2.kept ∙ from.2.kept },
+    ))
+    (after.nothing_else old.moment image before.later left)
+
+-- before the first call
+pub leaves_none : (part : Part) (step : List ℕ → List ℕ → Type 0) (old : DriveState) → ((xs : List ℕ) → step xs xs) → Leaves part step old old
+leaves_none part step old stays some image left = (image, left, record { changed = stays _; kept = refl })

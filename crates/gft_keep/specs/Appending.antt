@@ -1,9 +1,15 @@
 -- A journal while the missing parts of a block are named in it.
-use Rattle.std.specs.Prelude.{◌≡◌, ◌↔◌, ◌⊎◌, ℕ, ◌≤◌, List, ◌++◌, length}
+use Rattle.std.specs.Prelude.{◌≡◌, ◌↔◌, ◌⊎◌, ℕ, ◌≤◌, List, ◌++◌, length, Result}
+use Rattle.gft_base.specs.Words.{HasCause}
 use Rattle.gft_range.specs.declared.Range.{Range}
 use Rattle.gft_range.specs.Words.{HasOffset, InRange, IsMissing}
-use Rattle.gft_drive.specs.Words.{Covers}
+use Rattle.gft_drive.specs.Words.{Covers, DriveState, Elapses}
 use Rattle.gft_journal.specs.Words.{KeepsRest}
+
+-- time goes on, and the count of faults rises if the call failed
+pub record Passes {T E : Type 0} (old new : DriveState) (result : Result T E) : Type 0 where
+  pub time : Elapses old new
+  pub cause : HasCause old.faults new.faults result
 
 -- at most so many ranges of the block are missing
 abbrev pub MissAtMost : List Range → Range → ℕ → Type 0

@@ -3,7 +3,6 @@ ghost use Rattle.gft_base.specs.Words.{HasCause};
 ghost use Rattle.gft_drive.specs.Words.{HasLength, HasRead};
 ghost use Rattle.gft_drive.specs.declared.Part.TheVariants.{Bytes};
 ghost use Rattle.gft_journal.specs.Words.{HasAttachCause};
-ghost use Rattle.gft_range.specs.Words.{IsNormal};
 ghost use Rattle.gft_keep.specs.declared.standing.Standing.TheVariants.{Whole};
 ghost use Rattle.gft_keep.specs.Calls.{Attached, NotAttached, NotReattached, OnlyLooks, Reattached};
 ghost use Rattle.gft_keep.specs.Keep.{IsKeep, MovesBy};
@@ -104,8 +103,7 @@ impl<D: Drive + Drop> Keep<D> {
 
     /// The kept offsets.
     pub fn ranges(&self) -> &RangeSet
-        ensures ranges { result.now.ranges ≡ (keep_of D.state self.now).ranges }
-        ensures normal { IsNormal result.now.ranges }
+        ensures { result.now.ranges ≡ (keep_of D.state self.now).ranges }
     {
         &self.set
     }

@@ -145,10 +145,12 @@ fn store_appended<D: Drive>(
     requires open { IsOpen (open_keep (D.state drive.old) set.now.ranges journal.old) }
     requires block { FillsBlock block bytes.now }
     requires fits { HasFitUnion set.now.ranges block }
+    requires some { block.start < block.end }
     requires room { MissAtMost set.now.ranges block (slots_left journal.old) }
-    ensures torn { EachSince (TornOpen set.now.ranges block.start bytes.now) (D.state drive.old) (D.state drive.new) }
-    ensures stored { IfOk result (StoresBlock set.now.ranges block bytes.now journal.new (D.state drive.old)
-        (D.state drive.new)) }
+    ensures torn { EachSince (TornOpen set.now.ranges block.start bytes.now) (D.state drive.old)
+        (D.state drive.new) }
+    ensures stored { IfOk result (StoresBlock set.now.ranges block bytes.now journal.new
+        (D.state drive.old) (D.state drive.new)) }
     ensures cause { HasCause (D.state drive.old).faults (D.state drive.new).faults result }
 {
     let written = write_missing(drive, set, block, bytes)?;
@@ -168,10 +170,12 @@ fn store_union<D: Drive>(
     requires open { IsOpen (open_keep (D.state drive.old) set.now.ranges journal.old) }
     requires block { FillsBlock block bytes.now }
     requires fits { HasFitUnion set.now.ranges block }
+    requires some { block.start < block.end }
     requires union { IsUnion set.now.ranges block union.now.ranges }
-    ensures torn { EachSince (TornOpen set.now.ranges block.start bytes.now) (D.state drive.old) (D.state drive.new) }
-    ensures stored { IfOk result (StoresBlock set.now.ranges block bytes.now journal.new (D.state drive.old)
-        (D.state drive.new)) }
+    ensures torn { EachSince (TornOpen set.now.ranges block.start bytes.now) (D.state drive.old)
+        (D.state drive.new) }
+    ensures stored { IfOk result (StoresBlock set.now.ranges block bytes.now journal.new
+        (D.state drive.old) (D.state drive.new)) }
     ensures cause { HasCause (D.state drive.old).faults (D.state drive.new).faults result }
 {
     let written = write_missing(drive, set, block, bytes)?;

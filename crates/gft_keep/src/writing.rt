@@ -2,7 +2,7 @@ ghost use Rattle.std.specs.Prelude.{◌≡◌, ◌+◌, ◌≤◌, length, IfOk,
 ghost use Rattle.gft_drive.specs.Words.{ChangesOnly, IsSynced, Leaves, Reads};
 ghost use Rattle.gft_drive.specs.declared.Part.TheVariants.{Bytes, Ranges};
 ghost use Rattle.gft_journal.specs.Words.{IsJournalOf, slots_left};
-ghost use Rattle.gft_keep.specs.Appending.{AddsFront, AddsMissing, MissAtMost};
+ghost use Rattle.gft_keep.specs.Appending.{AddsFront, AddsMissing, MissAtMost, Passes};
 ghost use Rattle.gft_keep.specs.Store.{IsNewCount};
 ghost use Rattle.gft_keep.specs.Writing.{AreThere, Fills, FillsBlock, KeepsBytes};
 
@@ -53,7 +53,7 @@ pub(crate) fn append_missing<D: Drive>(
         (Reads Ranges (AddsMissing set.now.ranges block) (D.state drive.old) (D.state drive.new)) }
     ensures any_moment { Leaves Ranges (AddsFront set.now.ranges block) (D.state drive.old)
         (D.state drive.new) }
-    ensures only { ChangesOnly Ranges (D.state drive.old) (D.state drive.new) result }
+    ensures passes { Passes (D.state drive.old) (D.state drive.new) result }
 {
     for gap in set.missing(block) {
         journal.append(drive, gap)?;
