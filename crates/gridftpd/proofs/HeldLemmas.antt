@@ -98,7 +98,7 @@ module _ {D : Type 0} (state : D → DriveState) (number : ℕ) (stream : List �
         one_read = short;
         each = of_each new.drive (HoldsArrived stream (stream ++ piece)) moves.keep.lawful (λ image some may.
             let came = came_by (StoresSome offset bytes) k new follows.is_open.unbroken moves image some may in
-            let old = λ (x : ℕ) (covered : Covers came.from.ranges x). let n = named_in (stream ++ piece) more grown came.from came.exact x covered in (n.0, n.1, came.by.kept x n.0 n.2) in
+            let old : (x : ℕ) → Covers came.from.ranges x → (v : ℕ) × (kept (events_of (told_by (stream ++ piece))) x ≡ Some v) × Holds image x v = λ x covered. let n = named_in (stream ++ piece) more grown came.from came.exact x covered in (n.0, n.1, came.by.kept x n.0 n.2) in
             record {
               sound = sound_of new moves.keep some image may;
               held = λ x v has. came.by.kept x v (holds_front stream [] (told ∙ sym (append-nil follows.told)) no_arrival came.from came.exact x v has);

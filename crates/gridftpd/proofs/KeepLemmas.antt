@@ -1,5 +1,5 @@
 -- What a keep says of its images.
-use Rattle.std.proofs.Common.{◌≡◌, ℕ, ◌≤◌, ◌⊎◌, Option, Some, IsSome, refl, sym, subst, inl, inr}
+use Rattle.std.proofs.Common.{◌≡◌, ℕ, ◌≤◌, ◌⊎◌, Option, Some, IsSome, refl, sym, subst, arith, inl, inr}
 use Rattle.std.specs.Prelude.{slice_index}
 use Rattle.gft_range.specs.Words.{HasOffset}
 use Rattle.gft_drive.specs.Words.{DriveState, Elapses, Image, IsLawful, LeavesBy, MayLeave}

@@ -17,7 +17,7 @@ pub returns-then-not-is_met-clause-caused : goal.returns-then-not-is_met-clause-
 returns-then-not-is_met-clause-caused g c stream left follows done =
     let set = (keep_of g.D.Drive.state c.args.self.now.keep).ranges in
     let count = c.args.self.now.count in
-    let same : c.ranges-2.result.now.ranges ≡ set = c.ranges-2.ensures.ranges in
+    let same : c.ranges-2.result.now.ranges ≡ set = c.ranges-2.ensures in
     let missing = c.first_gap-missing.result in
     let gap : IfSome missing (IsFirstGap set) = subst (λ (rs : List Range). IfSome missing (IsFirstGap rs)) same c.first_gap-missing.ensures.gap in
     let no_gap : IfNone missing (HasNoGap set) = subst (λ (rs : List Range). IfNone missing (HasNoGap rs)) same c.first_gap-missing.ensures.none in
@@ -35,7 +35,7 @@ returns-then-not-is_met-clause-caused g c stream left follows done =
 pub returns-in-Ok-clause-caused : goal.returns-in-Ok-clause-caused
 returns-in-Ok-clause-caused g c stream left follows done =
     let set = (keep_of g.D.Drive.state c.args.self.now.keep).ranges in
-    let below = below_end set c.ranges-2.result.now.ranges c.ranges-3.result.now.ranges c.end-end.result c.first_gap-missing.result c.ranges-2.ensures.ranges c.ranges-3.ensures.ranges (is_none c.first_gap-missing.result (sym c.is_some.ensures ∙ c.if-is_some.false)) c.first_gap-missing.ensures.none c.end-end.ensures.whole in (
+    let below = below_end set c.ranges-2.result.now.ranges c.ranges-3.result.now.ranges c.end-end.result c.first_gap-missing.result c.ranges-2.ensures c.ranges-3.ensures (is_none c.first_gap-missing.result (sym c.is_some.ensures ∙ c.if-is_some.false)) c.first_gap-missing.ensures.none c.end-end.ensures.whole in (
       (
         met_none_at_end g.D.Drive.state stream c.args.self.now follows done,
         done_from g.D.Drive.state stream c.args.self.now c.end-end.result follows done (c.is_met.ensures.met.0 c.if-not-is_met.false) c.is_met.ensures.count below,
@@ -46,7 +46,7 @@ returns-in-Ok-clause-caused g c stream left follows done =
 pub returns-in-Ok-clause-complete : goal.returns-in-Ok-clause-complete
 returns-in-Ok-clause-complete g c stream follows done complete =
     let set = (keep_of g.D.Drive.state c.args.self.now.keep).ranges in
-    let below = below_end set c.ranges-2.result.now.ranges c.ranges-3.result.now.ranges c.end-end.result c.first_gap-missing.result c.ranges-2.ensures.ranges c.ranges-3.ensures.ranges (is_none c.first_gap-missing.result (sym c.is_some.ensures ∙ c.if-is_some.false)) c.first_gap-missing.ensures.none c.end-end.ensures.whole in
+    let below = below_end set c.ranges-2.result.now.ranges c.ranges-3.result.now.ranges c.end-end.result c.first_gap-missing.result c.ranges-2.ensures c.ranges-3.ensures (is_none c.first_gap-missing.result (sym c.is_some.ensures ∙ c.if-is_some.false)) c.first_gap-missing.ensures.none c.end-end.ensures.whole in
     stored_from g.D.Drive.state stream c.args.self.now c.end-end.result (keep_of g.D.Drive.state c.finish.new.self) follows done (c.is_met.ensures.met.0 c.if-not-is_met.false) c.is_met.ensures.count below c.finish.ensures.any_moment c.in-Ok.ensures.finished
 
 pub returns-in-Err-clause-caused : goal.returns-in-Err-clause-caused

@@ -48,7 +48,7 @@ returns-then-count-room-clause-caused g c =
     let n = c.in-Ok.count in
     let wants : c.in-Ok.count ≤ wanted c.reads.self.channel = omega (arith, c.in-Ok.ensures.count.1, c.min.ensures, c.wants-wants.ensures.wanted) in
     let room : c.reads.self.channel.taken + c.in-Ok.count ≤ MAX_BYTES = omega (arith, c.in-Ok.ensures.count.1, c.min.ensures, c.taken-room.ensures.taken, kept.follows.short, kept.follows.taken) in
-    let one_read : n ≤ READ_LEN = ? in
+    let one_read : n ≤ READ_LEN = omega (arith, c.in-Ok.ensures.count.0, c.requires.room.1, c.reads.auto.buf, c.read_next.auto.buf) in
     let len : length (take n c.read_next.new.buf) ≡ n = length-take-le n c.read_next.new.buf c.in-Ok.ensures.count.0 in (
       kept.stream ++ take n c.read_next.new.buf,
       taken_more g.D.Drive.state kept.stream c.reads.self _ _ _ c.read_next.new.buf n kept.follows kept.consumed c.in-Ok.ensures.consumed c.in-Ok.ensures.count.0 wants room,

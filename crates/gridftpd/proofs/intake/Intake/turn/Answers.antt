@@ -3,7 +3,11 @@ use Rattle.std.proofs.lemmas.Bool.{cases_lt}
 use Rattle.std.proofs.lemmas.Option.{none-some}
 use Rattle.gft_eblock.specs.declared.Event.{Event}
 use Rattle.gft_eblock.specs.declared.Event.TheVariants as event
-use Rattle.gft_eblock.specs.Words.{Reader, wanted}
+use Rattle.gft_eblock.specs.declared.channel.State.{State}
+use Rattle.gft_eblock.specs.declared.channel.State.TheVariants.{Header, Data, EodWaits, Done, Failed}
+use Rattle.gft_eblock.specs.Channel.{IsDoneState}
+use Rattle.gft_eblock.specs.Feeding.{IsEventOf, IsOpen}
+use Rattle.gft_eblock.specs.Words.{IsDone, Reader, wanted}
 use Rattle.gft_keep.specs.declared.KeepError.{KeepError}
 use Rattle.gft_keep.specs.Words.{ShowsRefusal, block_of, keep_of}
 use Rattle.gridftpd.proofs.FollowLemmas.{follows_none, follows_piece, follows_eof, follows_eod}
@@ -50,6 +54,18 @@ returns-in-Err-clause-caused g c stream left follows =
       bad_from state stream c.args.self.now c.args.piece.now c.in-Err.bad _ follows c.in-Err.ensures.bad c.requires.wanted c.requires.room,
       held_bad state stream c.args.self.now c.args.piece.now c.in-Err.bad _ follows c.in-Err.ensures.bad,
     )
+
+open_not_done : (s : State) → IsOpen s → IsDoneState s → ⊥
+open_not_done Header going done = done
+open_not_done (Data offset left eod) going done = done
+open_not_done EodWaits going done = done
+open_not_done Done going done = going
+open_not_done (Failed bad) going done = done
+
+-- behind a piece the channel isn't done
+piece_is_not_last : (told : Option Event) (r : Reader) (offset : ℕ) (bytes : Bor (List ℕ)) → told ≡ Some (event.Piece offset bytes) → IsEventOf told r.state r.header → IsDone r → ⊥
+piece_is_not_last told r offset bytes is shape done =
+    open_not_done r.state (subst (λ (e : Option Event). IsEventOf e r.state r.header) is shape).2 done
 
 -- what a piece brings was awaited, since it isn't the EOD that waits
 awaited : (channel : Reader) (told : Option Event) (offset : ℕ) (bytes : Bor (List ℕ)) → told ≡ Some (event.Piece offset bytes) → (wanted channel ≡ 0 → told ≡ Some event.Eod) → 0 < wanted channel
@@ -98,4 +114,6 @@ returns-in-Err-Failed-clause-caused g c stream left follows =
     )
 
 pub returns-in-Ok-store-clause-ended : goal.returns-in-Ok-store-clause-ended
-returns-in-Ok-store-clause-ended g c = (λ no. cc no, λ done. ?)
+returns-in-Ok-store-clause-ended g c =
+    let is = c.in-Some.is ∙ ap (λ event. Some event) c.in-Piece.is in
+    (λ no. cc no, λ done. absurd (piece_is_not_last c.in-Ok.step.event c.feed.new.self c.in-Piece.offset c.in-Piece.bytes is c.in-Ok.ensures.ok.event done))
