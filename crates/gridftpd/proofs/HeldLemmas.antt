@@ -56,8 +56,8 @@ module _ {D : Type 0} (state : D → DriveState) (number : ℕ) (stream : List �
       let k = keep_of state intake.keep in
       of_each k.drive (HoldsArrived front all) follows.is_open.unbroken.facts.lawful
       (λ image some may.
-          let exact = exact_of k follows.is_open.unbroken image some may in
-          record { sound = exact.sound; held = holds_front front behind split none image exact; named = named_in all more grown image exact })
+      let exact = exact_of k follows.is_open.unbroken image some may in
+      record { sound = exact.sound; held = holds_front front behind split none image exact; named = named_in all more grown image exact })
 
   -- all that the intake was told of
   pub each_told : told_by stream ≡ follows.told → OfEach (keep_of state intake.keep).drive (HoldsArrived stream stream)
@@ -147,12 +147,12 @@ module _ {D : Type 0} (state : D → DriveState) (number : ℕ) (stream : List �
       let k = keep_of state intake.keep in
       let all : told_by stream ≡ follows.told ++ [] = told ∙ sym (append-nil follows.told) in
       of_each new.drive (HoldsArrived stream stream) moves.keep.lawful (λ image some may.
-          let came = came_by (Finishes len) k new follows.is_open.unbroken moves image some may in
-          record {
-            sound = sound_of new moves.keep some image may;
-            held = λ x v has. came.by.stays.held x v (holds_front stream [] all no_arrival came.from came.exact x v has);
-            named = λ x covered. let n = named_in stream [] all came.from came.exact x ((came.by.stays.ranges x).0 covered) in (n.0, n.1, came.by.stays.held x n.0 n.2);
-          })
+      let came = came_by (Finishes len) k new follows.is_open.unbroken moves image some may in
+      record {
+        sound = sound_of new moves.keep some image may;
+        held = λ x v has. came.by.stays.held x v (holds_front stream [] all no_arrival came.from came.exact x v has);
+        named = λ x covered. let n = named_in stream [] all came.from came.exact x ((came.by.stays.ranges x).0 covered) in (n.0, n.1, came.by.stays.held x n.0 n.2);
+      })
 
   whole_file : (len : ℕ) (new : KeepState) → MovesBy (Finishes len) (keep_of state intake.keep) new → Finished len (keep_of state intake.keep) new → told_by stream ≡ follows.told → ((x : ℕ) → HasOffset (keep_of state intake.keep).ranges x ↔ (x < len))
       → (image : Image) → IsExact new image → IsWholeFile (events_of (told_by stream)) image
