@@ -1,16 +1,19 @@
--- A good input is refused by no line.
+-- A good input is refused by no line but that of full ranges.
 use Rattle.std.proofs.Common.{◌≡◌, ℕ, ◌<◌, List, [], ◌∷◌, ◌++◌, append_assoc, append-nil, length, take, Option, Some, None, IsSome, refl, sym, ap, ◌∙◌, subst, arith, inl, inr}
 use Rattle.std.proofs.lemmas.List.{take-append-le}
 use Rattle.gft_eblock.specs.Words.{Arrival, Refusal, At, Eof, Eod, Bad, eods, arrivals, data_at, IsUnfinished, HasEnded}
 use Rattle.gft_range.specs.declared.Range.{Range}
+use Rattle.gft_drive.specs.declared.TheConstants.{MAX_RANGES}
 use Rattle.gft_eblock.specs.declared.TheConstants.{MAX_BYTES}
 use Rattle.gft_eblock.proofs.Lemmas.{arrivals-ended, arrivals-grow, unfinished_not_ended}
 use Rattle.gft_eod.specs.declared.EodError.{EodError}
 use Rattle.gridftpd.proofs.CountLemmas.{done_is_counted}
 use Rattle.gridftpd.specs.declared.outcome.Outcome.{Outcome}
 use Rattle.gridftpd.specs.declared.outcome.Outcome.TheVariants as outcome
-use Rattle.gridftpd.specs.Cause.{told_by, IsCause, IsLost, HasHole, IsFirstMissing, IsMiscounted, NeedsMoreRanges, EndsBad}
-use Rattle.gridftpd.specs.Drain.{IsTaken, IsGood, IsRefusal}
+use Rattle.gridftpd.specs.Cause.{told_by, EndsNothing, IsCause, IsLost, HasHole, IsFirstMissing, IsMiscounted, NeedsMoreRanges, EndsBad}
+use Rattle.std.specs.Io.KnownBytes.{Appends}
+use Rattle.gridftpd.specs.Line.{text_of}
+use Rattle.gridftpd.specs.Drain.{FillsRanges, IsTaken, IsGood, IsRefusal}
 use Rattle.gridftpd.proofs.DoneLemmas.{SaysDone, says_done}
 use Rattle.gridftpd.proofs.ArrivalLemmas.{eods-append}
 use Rattle.gridftpd.proofs.EndLemmas.{no_arrivals}
@@ -78,46 +81,38 @@ module _ (bytes stream rest : List ℕ) (all : bytes ≡ stream ++ rest) (good :
       let same = same_told ended in
       omega (arith, some_eod, ap eods same, ap eods bad.split, eods-append bad.earlier (Bad refused ∷ []), eods-unfinished bad.earlier bad.unfinished)
 
-  not_miscounted : (error : EodError) → IsMiscounted (told_by stream) error → ⊥
+  not_miscounted : (error : EodError) → IsMiscounted stream error → ⊥
   not_miscounted error wrong =
       let more = grown in
-      done_is_counted (told_by stream) more.0 end error (subst (λ (list : List Arrival). SaysDone list end) more.1 says) wrong
+      done_is_counted (told_by stream) more.0 end wrong.earlier wrong.later wrong.total error (subst (λ (list : List Arrival). SaysDone list end) more.1 says) wrong.split wrong.refused
 
-  not_too_long : ((n : ℕ) → n < length stream → IsUnfinished (told_by (take n stream))) → length stream ≡ MAX_BYTES → ⊥
+  not_too_long : ((n : ℕ) → n < length stream → EndsNothing (told_by (take n stream))) → length stream ≡ MAX_BYTES → ⊥
   not_too_long in_time long =
       let n = good.soon.0 in
       let lt : n < length stream = omega (arith, good.soon.1) in
       let same : take n bytes ≡ take n stream = ap (take n) all ∙ take-append-le n stream rest (omega arith) in
-      unfinished_not_ended (told_by (take n stream)) (in_time n lt) (subst (λ (list : List ℕ). HasEnded (told_by list)) same good.soon.2)
+      unfinished_not_ended (told_by (take n stream)) (in_time n lt).unfinished (subst (λ (list : List ℕ). HasEnded (told_by list)) same good.soon.2)
 
-  not_full : NeedsMoreRanges (told_by stream) → ⊥
-  not_full needs =
-      let more = grown in
-      good.few_ranges (record {
-        earlier = needs.earlier;
-        offset = needs.offset;
-        bytes = needs.bytes;
-        later = needs.later ++ more.0;
-        split = more.1 ∙ ap (λ list. list ++ more.0) needs.split ∙ append_assoc needs.earlier (data_at needs.offset needs.bytes ++ needs.later) more.0
-            ∙ ap (λ list. needs.earlier ++ list) (append_assoc (data_at needs.offset needs.bytes) needs.later more.0);
-        ranges = needs.ranges;
-        offsets = needs.offsets;
-        full = needs.full;
-      })
+  no_refusal : (ending : Outcome) → IsRefusal ending → IsCause ending stream (Some rest) → ((n : ℕ) → n < length stream → EndsNothing (told_by (take n stream))) → NeedsMoreRanges stream × (ending ≡ outcome.RangesFull MAX_RANGES)
+  no_refusal outcome.Complete is cause in_time = absurd is
+  no_refusal (outcome.Lost taken) is cause in_time = absurd (not_lost taken cause.1)
+  no_refusal (outcome.Hole total number missing) is cause in_time = absurd (not_a_hole total number missing cause.1)
+  no_refusal (outcome.BadBlock bad) is cause in_time = absurd (not_bad _ cause)
+  no_refusal (outcome.CountRefused error) is cause in_time = absurd (not_miscounted error cause)
+  no_refusal outcome.TooLong is cause in_time = absurd (not_too_long in_time cause)
+  no_refusal (outcome.RangesFull kept) is cause in_time = (cause.1, ap (λ n. outcome.RangesFull n) cause.0)
+  no_refusal outcome.Damaged is cause in_time = absurd is
+  no_refusal outcome.ReadFailed is cause in_time = absurd is
+  no_refusal outcome.DriveFailed is cause in_time = absurd is
+  no_refusal outcome.OutOfMemory is cause in_time = absurd is
 
-  no_refusal : (ending : Outcome) → IsRefusal ending → IsCause ending stream (Some rest) → ((n : ℕ) → n < length stream → IsUnfinished (told_by (take n stream))) → ⊥
-  no_refusal outcome.Complete is cause in_time = is
-  no_refusal (outcome.Lost taken) is cause in_time = not_lost taken cause
-  no_refusal (outcome.Hole total number missing) is cause in_time = not_a_hole total number missing cause
-  no_refusal (outcome.BadBlock bad) is cause in_time = not_bad _ cause
-  no_refusal (outcome.CountRefused error) is cause in_time = not_miscounted error cause
-  no_refusal outcome.TooLong is cause in_time = not_too_long in_time cause
-  no_refusal (outcome.RangesFull kept) is cause in_time = not_full cause.1
-  no_refusal outcome.ReadFailed is cause in_time = is
-  no_refusal outcome.DriveFailed is cause in_time = is
-  no_refusal outcome.OutOfMemory is cause in_time = is
+refused_by_ranges : (bytes stream : List ℕ) (before after : Option (List ℕ)) (ending : Outcome) → before ≡ Some bytes → IsGood bytes → IsTaken before after stream → IsCause ending stream after → IsRefusal ending → NeedsMoreRanges stream × (ending ≡ outcome.RangesFull MAX_RANGES)
+refused_by_ranges bytes stream None after ending is good taken cause refused = absurd (cc)
+refused_by_ranges bytes stream (Some known) None ending is good taken cause refused = absurd taken.consumed
+refused_by_ranges bytes stream (Some known) (Some rest) ending is good taken cause refused = no_refusal bytes stream rest (let same : known ≡ bytes = cc in sym same ∙ taken.consumed) good ending refused cause taken.in_time
 
-pub refused_never : (bytes stream : List ℕ) (before after : Option (List ℕ)) (ending : Outcome) → before ≡ Some bytes → IsGood bytes → IsTaken before after stream → IsCause ending stream after → IsRefusal ending → ⊥
-refused_never bytes stream None after ending is good taken cause refused = cc
-refused_never bytes stream (Some known) None ending is good taken cause refused = taken.consumed
-refused_never bytes stream (Some known) (Some rest) ending is good taken cause refused = no_refusal bytes stream rest (let same : known ≡ bytes = cc in sym same ∙ taken.consumed) good ending refused cause taken.in_time
+-- the one refusal of a good input
+pub fills_ranges : (bytes stream : List ℕ) (before after written put : Option (List ℕ)) (ending : Outcome) → before ≡ Some bytes → IsGood bytes → IsTaken before after stream → IsCause ending stream after → IsRefusal ending → Appends written put (text_of ending) → FillsRanges before after written put
+fills_ranges bytes stream before after written put ending is good taken cause refused line =
+    let full = refused_by_ranges bytes stream before after ending is good taken cause refused in
+    record { stream = stream; taken = taken; cause = full.0; line = subst (λ (answer : Outcome). Appends written put (text_of answer)) full.1 line }

@@ -1,16 +1,16 @@
 -- The count of EODs beside the arrivals.
-use Rattle.std.proofs.Common.{◌≡◌, ℕ, suc, ◌+◌, ◌≤◌, ◌⊎◌, List, [], ◌∷◌, ◌++◌, append-nil, append_assoc, ◌||◌, Option, Some, None, refl, sym, ap, ◌∙◌, subst, arith, inl, inr}
+use Rattle.std.proofs.Common.{◌≡◌, ◌≢◌, ℕ, suc, ◌+◌, ◌<◌, ◌≤◌, ◌⊎◌, List, [], ◌∷◌, ◌++◌, append-nil, append_assoc, ◌||◌, Bool, true, false, Option, Some, None, refl, sym, ap, ◌∙◌, subst, arith, inl, inr, if◌then◌else◌}
+use Rattle.std.proofs.lemmas.Bool.{cases_lt, ltb-false, or_parts}
 use Rattle.std.proofs.lemmas.Bool.Decides.{eqb_tells}
 use Rattle.std.specs.Prelude.{nat_eq, nat_lt}
 use Rattle.gft_eod.specs.declared.TheConstants.{MAX_EODS}
-use Rattle.gft_eblock.specs.Words.{Arrival, At, Eof, Eod, Bad, totals, eods}
-use Rattle.gridftpd.specs.Totals.{first_of, AllAre}
+use Rattle.gft_eblock.specs.Words.{Arrival, Eof, Eod, totals, eods}
+use Rattle.gridftpd.specs.Totals.{first_of, AllAre, AreAgreed}
 use Rattle.gridftpd.proofs.DoneLemmas.{SaysDone}
 use Rattle.gft_eod.specs.declared.EodError.{EodError}
 use Rattle.gft_eod.specs.declared.EodError.TheVariants.{BadTotal, TwoTotals}
-use Rattle.gft_eod.specs.Words.{Count, eof_refusal, totals_refusal}
+use Rattle.gft_eod.specs.Words.{Count, eof_refusal, eod_refusal, totals_refusal}
 use Rattle.gft_core.proofs.Lemmas.{else_none, eod_fits, eof_fits}
-use Rattle.gridftpd.specs.Cause.{count_of, refusal_at, IsMiscounted}
 use Rattle.gridftpd.specs.Follows.{Counts}
 use Rattle.gridftpd.proofs.ArrivalLemmas.{totals-append, eods-append}
 
@@ -31,6 +31,35 @@ first_of-all : (n kept : ℕ) (list : List ℕ) → AllAre n list → first_of l
 first_of-all n kept [] all first = absurd (cc)
 first_of-all n kept (m ∷ list) all first = let same : Some m ≡ Some kept = first in let here : m ≡ kept = cc in sym here ∙ all.0
 
+-- totals that agree are all the first
+pub agreed_all : (n : ℕ) (list : List ℕ) → AreAgreed list → first_of list ≡ Some n → AllAre n list
+agreed_all n [] agreed first = tt
+agreed_all n (m ∷ list) agreed first = let here : m ≡ n = cc in (here, subst (λ k. AllAre k list) here agreed.2)
+
+AreAgreed-more : (front : List ℕ) (n : ℕ) → 1 ≤ n → n ≤ MAX_EODS → AreAgreed front → (first_of front ≡ None) ⊎ (first_of front ≡ Some n) → AreAgreed (front ++ n ∷ [])
+AreAgreed-more [] n low high agreed kept = (low, high, tt)
+AreAgreed-more (m ∷ front) n low high agreed kept =
+    let first : m ≡ n = elim kept [ inl none ↦ let never : Some m ≡ None = none in absurd (cc) | inr some ↦ let same : Some m ≡ Some n = some in cc ] in
+    (agreed.0, agreed.1, AllAre-append m front (n ∷ []) agreed.2 (sym first, tt))
+
+not_refused : (b : Bool) (error : EodError) (other : Option EodError) → (if b then Some error else other) ≡ None → b ≡ false
+not_refused true error other taken = absurd (cc)
+not_refused false error other taken = refl
+
+-- a total that is taken may be announced
+in_bounds : (n : ℕ) (other : Option EodError) → (if nat_eq n 0 || nat_lt MAX_EODS n then Some (BadTotal n) else other) ≡ None → (1 ≤ n) × (n ≤ MAX_EODS)
+in_bounds n other taken =
+    let parts = or_parts (nat_eq n 0) (nat_lt MAX_EODS n) (not_refused (nat_eq n 0 || nat_lt MAX_EODS n) (BadTotal n) other taken) in
+    let some : 1 ≤ n = elim (eqb_tells n 0) [
+      | inl same ↦ absurd (let a : nat_eq n 0 ≡ false = parts.0 in let b = same.0 in cc)
+      | inr apart ↦ elim (cases_lt 0 n) [ inl above ↦ omega arith | inr none ↦ absurd (apart.1 (omega arith)) ]
+    ] in
+    (some, ltb-false MAX_EODS n parts.1)
+
+-- the count of these arrivals: the first total, and the EODs
+abbrev pub count_of : List Arrival → Count
+count_of list = record { total = first_of (totals list); eods = eods list }
+
 pub count_is : (list : List Arrival) (count : Count) → Counts list count → count_of list ≡ count
 count_is list count counts =
     ap (λ (t : Option ℕ). let c : Count = record { total = t; eods = eods list } in c) (sym counts.total)
@@ -43,7 +72,7 @@ Counts-same list brought count counts none zero =
     record {
       total = counts.total ∙ ap first_of (sym same);
       eods = omega (arith, counts.eods, eods-append list brought, zero);
-      agreed = λ total first. subst (AllAre total) (sym same) (counts.agreed total (ap first_of (sym same) ∙ first));
+      agreed = subst AreAgreed (sym same) counts.agreed;
     }
 
 pub Counts-eod : (list : List Arrival) (old new : Count) → Counts list old → new.total ≡ old.total → new.eods ≡ old.eods + 1 → Counts (list ++ Eod ∷ []) new
@@ -52,7 +81,7 @@ Counts-eod list old new counts total more =
     record {
       total = total ∙ counts.total ∙ ap first_of (sym same);
       eods = omega (arith, counts.eods, eods-append list (Eod ∷ []), more);
-      agreed = λ n first. subst (AllAre n) (sym same) (counts.agreed n (ap first_of (sym same) ∙ first));
+      agreed = subst AreAgreed (sym same) counts.agreed;
     }
 
 kept_total : (kept : Option ℕ) (taken n : ℕ) → totals_refusal kept taken n ≡ None → (kept ≡ None) ⊎ (kept ≡ Some n)
@@ -67,49 +96,49 @@ pub Counts-eof : (list : List Arrival) (n : ℕ) (old new : Count) → Counts li
 Counts-eof list n old new counts taken total same_eods =
     let all : totals (list ++ Eof n ∷ []) ≡ totals list ++ n ∷ [] = totals-append list (Eof n ∷ []) in
     let kept = kept_total old.total old.eods n (else_none (nat_eq n 0 || nat_lt MAX_EODS n) (BadTotal n) (totals_refusal old.total old.eods n) taken) in
-    let first : first_of (totals list ++ n ∷ []) ≡ Some n = first_then (totals list) n (elim kept [ inl none ↦ inl (sym counts.total ∙ none) | inr some ↦ inr (sym counts.total ∙ some) ]) in
+    let either : (first_of (totals list) ≡ None) ⊎ (first_of (totals list) ≡ Some n) = elim kept [ inl none ↦ inl (sym counts.total ∙ none) | inr some ↦ inr (sym counts.total ∙ some) ] in
+    let bounds = in_bounds n (totals_refusal old.total old.eods n) taken in
     record {
-      total = total ∙ sym first ∙ ap first_of (sym all);
+      total = total ∙ sym (first_then (totals list) n either) ∙ ap first_of (sym all);
       eods = omega (arith, counts.eods, same_eods, eods-append list (Eof n ∷ []));
-      agreed = λ m is.
-          let one : Some n ≡ Some m = sym first ∙ ap first_of (sym all) ∙ is in
-          let same : n ≡ m = cc in
-          subst (λ (k : ℕ). AllAre k (totals (list ++ Eof n ∷ []))) same (subst (AllAre n) (sym all) (AllAre-append n (totals list) (n ∷ [])
-          (elim kept [ inl none ↦ all_none n (totals list) (sym counts.total ∙ none) | inr some ↦ counts.agreed n (sym counts.total ∙ some) ]) (refl, tt)));
+      agreed = subst AreAgreed (sym all) (AreAgreed-more (totals list) n bounds.0 bounds.1 counts.agreed either);
     }
   where
     first_then : (front : List ℕ) (m : ℕ) → (first_of front ≡ None) ⊎ (first_of front ≡ Some m) → first_of (front ++ m ∷ []) ≡ Some m
     first_then [] m either = refl
     first_then (k ∷ front) m either = elim either [ inl none ↦ let no : Some k ≡ None = none in absurd (cc) | inr some ↦ some ]
 
-    all_none : (m : ℕ) (front : List ℕ) → first_of front ≡ None → AllAre m front
-    all_none m [] none = tt
-    all_none m (k ∷ front) none = let no : Some k ≡ None = none in absurd (cc)
+-- the first EOD of a channel is never refused
+eod_in : (list : List ℕ) (count : ℕ) → AreAgreed list → count ≡ 0 → eod_refusal (record { total = first_of list; eods = count }) ≡ None
+eod_in [] count agreed none = eod_fits None count MAX_EODS (omega arith) (λ k is. let never : nothing_known ≡ Some k = is in absurd (cc)) (omega (arith, none))
+  where
+    nothing_known : Option ℕ
+    nothing_known = None
+eod_in (n ∷ list) count agreed none = eod_fits (Some n) count n agreed.1 (λ k is. let same : Some n ≡ Some k = is in cc) (omega (arith, none, agreed.0))
+
+pub eod_taken : (list : List Arrival) (count : Count) → Counts list count → eods list ≡ 0 → eod_refusal count ≡ None
+eod_taken list count counts none = subst (λ (c : Count). eod_refusal c ≡ None) (count_is list count counts) (eod_in (totals list) (eods list) counts.agreed none)
+
+-- the count beside arrivals without an EOD refuses as beside their totals alone
+pub refused_first : (list : List Arrival) (count : Count) (total : ℕ) (error : EodError) → Counts list count → eods list ≡ 0 → eof_refusal count total ≡ Some error → eof_refusal (record { total = first_of (totals list); eods = 0 }) total ≡ Some error
+refused_first list count total error counts none refused =
+    subst (λ n. eof_refusal (record { total = first_of (totals list); eods = n }) total ≡ Some error) none
+    (subst (λ (c : Count). eof_refusal c total ≡ Some error) (sym (count_is list count counts)) refused)
 
 -- ---- arrivals that are done are counted without a refusal
 
 abbrev nothing : Option EodError
 nothing = None
 
-refused_fine : (number end : ℕ) (earlier : List Arrival) (arrival : Arrival) (later : List Arrival) (error : EodError) → 1 ≤ number → number ≤ MAX_EODS → AllAre number (totals (earlier ++ arrival ∷ later)) → eods (earlier ++ arrival ∷ later) ≡ number → refusal_at earlier arrival ≡ Some error → ⊥
-refused_fine number end earlier (At offset value) later error low high all met refused = let no : nothing ≡ Some error = refused in cc
-refused_fine number end earlier (Bad refusal) later error low high all met refused = let no : nothing ≡ Some error = refused in cc
-refused_fine number end earlier (Eof total) later error low high all met refused =
-    let split = subst (AllAre number) (totals-append earlier (Eof total ∷ later)) all in
-    let front = AllAre-front number (totals earlier) (total ∷ totals later) split in
-    let here : total ≡ number = (AllAre-back number (totals earlier) (total ∷ totals later) split).0 in
-    let fine = eof_fits (count_of earlier) total (omega arith) (omega arith) (λ m first. first_of-all number m (totals earlier) front first ∙ sym here) (omega (arith, eods-append earlier (Eof total ∷ later))) in
-    let no : nothing ≡ Some error = sym fine ∙ refused in
-    cc
-refused_fine number end earlier Eod later error low high all met refused =
-    let front = AllAre-front number (totals earlier) (totals later) (subst (AllAre number) (totals-append earlier (Eod ∷ later)) all) in
-    let counted : eods earlier + suc (eods later) ≡ number = sym (eods-append earlier (Eod ∷ later)) ∙ met in
-    let fine = eod_fits (first_of (totals earlier)) (eods earlier) number high (λ m first. first_of-all number m (totals earlier) front first) (omega arith) in
-    let no : nothing ≡ Some error = sym fine ∙ refused in
-    cc
-
-pub done_is_counted : (list more : List Arrival) (end : ℕ) (error : EodError) → SaysDone (list ++ more) end → IsMiscounted list error → ⊥
-done_is_counted list more end error done wrong =
-    let split : list ++ more ≡ wrong.earlier ++ (wrong.arrival ∷ (wrong.later ++ more)) = ap (λ front. front ++ more) wrong.split ∙ append_assoc wrong.earlier (wrong.arrival ∷ wrong.later) more in
+pub done_is_counted : (list more : List Arrival) (end : ℕ) (earlier later : List ℕ) (total : ℕ) (error : EodError) → SaysDone (list ++ more) end → totals list ≡ earlier ++ total ∷ later → eof_refusal (record { total = first_of earlier; eods = 0 }) total ≡ Some error → ⊥
+done_is_counted list more end earlier later total error done split refused =
     let bounds = done.in_bounds in
-    refused_fine done.total end wrong.earlier wrong.arrival (wrong.later ++ more) error bounds.0 bounds.1 (subst (λ (l : List Arrival). AllAre done.total (totals l)) split done.no_other) (ap eods (sym split) ∙ done.met) wrong.refused
+    let low : 1 ≤ done.total = bounds.0 in
+    let high : done.total ≤ MAX_EODS = bounds.1 in
+    let all = AllAre-front done.total (totals list) (totals more) (subst (AllAre done.total) (totals-append list more) done.no_other) in
+    let parts = subst (AllAre done.total) split all in
+    let front = AllAre-front done.total earlier (total ∷ later) parts in
+    let here : total ≡ done.total = (AllAre-back done.total earlier (total ∷ later) parts).0 in
+    let fine = eof_fits (record { total = first_of earlier; eods = 0 }) total (omega arith) (omega arith) (λ m first. first_of-all done.total m earlier front first ∙ sym here) (omega arith) in
+    let no : nothing ≡ Some error = sym fine ∙ refused in
+    cc

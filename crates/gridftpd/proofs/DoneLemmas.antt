@@ -9,7 +9,7 @@ use Rattle.gft_core.specs.Words.{first_some, since, begun, total, AllPass, Done}
 use Rattle.gft_core.specs.Words as core
 use Rattle.gft_core.proofs.Lemmas.{first_some-none, first_some-assoc}
 use Rattle.gridftpd.specs.Events.{event_of, events_after, events_of}
-use Rattle.gridftpd.specs.Follows.{HasNoBad}
+use Rattle.gridftpd.specs.Cause.{HasNoBad}
 use Rattle.gridftpd.specs.Totals.{first_of, AllAre}
 use Rattle.gridftpd.proofs.EventLemmas.{arrives_kept, kept_arrives}
 

@@ -4,7 +4,11 @@ mod DoneLemmas
 mod EndLemmas
 mod EventLemmas
 mod FollowLemmas
+mod HeldLemmas
+mod KeepLemmas
 mod OriginLemmas
+mod RangeLemmas
+mod StartLemmas
 mod StatusLemmas
 mod WordsLemmas
 mod CertainLemmas

@@ -6,15 +6,14 @@ use Rattle.std.proofs.lemmas.Option.{none-some}
 use Rattle.gft_eblock.specs.Words.{Arrival, At, Eof, Eod, Bad, eods, arrivals, HasEnded}
 use Rattle.gft_core.specs.declared.CoreEvent.{CoreEvent}
 use Rattle.gft_core.specs.declared.CoreEvent.TheVariants as event
-use Rattle.gft_core.specs.Words.{byte_at, generation, Done, AllCarry, CarriesSource}
+use Rattle.gft_core.specs.Words.{byte_at, generation, Done, AllCarry, CarriesSource, HasNoCrash}
 use Rattle.gft_core.proofs.Lemmas.{honest, sent_where_booked, byte_at-here, byte_at-later}
-use Rattle.gft_drive.specs.Words.{DriveState, Reads}
-use Rattle.gft_drive.specs.declared.Part.TheVariants.{Bytes}
-use Rattle.gft_drive.proofs.Lemmas.{Reads-weaker}
+use Rattle.gft_drive.specs.Words.{DriveState}
 use Rattle.gft_eblock.proofs.Lemmas.{arrivals-ended}
 use Rattle.gridftpd.specs.Cause.{told_by}
 use Rattle.gridftpd.specs.Events.{event_of, events_after, events_of, IsKept}
-use Rattle.gridftpd.specs.Drain.{IsTaken, IsStored, IsTruthful, IsHonest, IsFile}
+use Rattle.gridftpd.specs.Drain.{IsTaken, IsTruthful, IsHonest, IsFile}
+use Rattle.gridftpd.specs.Images.{IsStored, OfEach}
 use Rattle.gridftpd.proofs.DoneLemmas.{says_done}
 use Rattle.gridftpd.proofs.EventLemmas.{arrives_kept}
 
@@ -52,6 +51,14 @@ carry-after source before (Eof total ∷ list) all truthful = carry-after source
 carry-after source before (Eod ∷ list) all truthful = carry-after source (event_of Eod ∷ before) list (all, nothing_carried source) truthful
 carry-after source before (Bad refusal ∷ list) all truthful = carry-after source (event_of (Bad refusal) ∷ before) list (all, nothing_carried source) truthful
 
+-- arrivals are no crashes
+no_crash-after : (before : List CoreEvent) (list : List Arrival) → HasNoCrash (generation before) → HasNoCrash (generation (events_after before list))
+no_crash-after before [] none = none
+no_crash-after before (At offset value ∷ list) none = no_crash-after (event_of (At offset value) ∷ before) list none
+no_crash-after before (Eof total ∷ list) none = no_crash-after (event_of (Eof total) ∷ before) list none
+no_crash-after before (Eod ∷ list) none = no_crash-after (event_of Eod ∷ before) list none
+no_crash-after before (Bad refusal ∷ list) none = no_crash-after (event_of (Bad refusal) ∷ before) list none
+
 -- lists with the same element at each place
 same_gets : (a b : List ℕ) → ((x : ℕ) → slice_get a x ≡ slice_get b x) → a ≡ b
 same_gets [] [] same = refl
@@ -69,19 +76,20 @@ file_is_source source file list sender done is_kept =
     let bounds = says.in_bounds in
     let some : 0 < eods list = omega (arith, says.met, bounds.0) in
     let fresh : List CoreEvent = event.Fresh ∷ [] in
-    let law = honest source (events_of list)
+    let no_crash = no_crash-after fresh list tt in
+    let law = honest source (events_of list) no_crash
     (record {
       carry = carry-after source fresh list (tt, nothing_carried source) sender.truthful;
-      cover = λ x lt. let byte = arrives_kept list x (sender.whole some x lt) in sent_where_booked (generation (events_of list)) x byte.0 byte.1;
+      cover = λ x lt. let byte = arrives_kept list x (sender.whole some x lt) in sent_where_booked (events_of list) no_crash x byte.0 byte.1;
     })
     done in
     same_gets file source (λ x. sym (is_kept x) ∙ law x)
 
-pub stored_is_source : (source bytes stream : List ℕ) (before after : Option (List ℕ)) (old new : DriveState) → before ≡ Some bytes → IsHonest source (told_by bytes) → IsTaken before after stream → IsStored stream old new → Reads Bytes (IsFile source) old new
-stored_is_source source bytes stream before after old new is sender taken stored =
-    let says = says_done (told_by stream) stored.0 in
+pub stored_is_source : (source bytes stream : List ℕ) (before after : Option (List ℕ)) (drive : DriveState) → before ≡ Some bytes → IsHonest source (told_by bytes) → IsTaken before after stream → IsStored stream drive → OfEach drive (IsFile source)
+stored_is_source source bytes stream before after drive is sender taken stored image of_drive =
+    let says = says_done (told_by stream) stored.done in
     let bounds = says.in_bounds in
     let some : 0 < eods (told_by stream) = omega (arith, says.met, bounds.0) in
     let all : told_by bytes ≡ told_by stream = told_of_all bytes stream after (subst (λ (b : Option (List ℕ)). Consumes b after stream) is taken.consumed) some in
     let truthful = subst (λ (list : List Arrival). IsHonest source list) all sender in
-    Reads-weaker Bytes (λ before after. IsKept (events_of (told_by stream)) after) (IsFile source) old new (λ xs ys is_kept. file_is_source source ys (told_by stream) truthful stored.0 is_kept) stored.1
+    file_is_source source image.bytes (told_by stream) truthful stored.done (stored.file image of_drive).bytes

@@ -23,6 +23,7 @@ stands_for (outcome.BadBlock bad) = record { complete = λ zero. absurd (cc); re
 stands_for (outcome.CountRefused error) = record { complete = λ zero. absurd (cc); refused = λ one. tt; not_usage = λ two. cc }
 stands_for outcome.TooLong = record { complete = λ zero. absurd (cc); refused = λ one. tt; not_usage = λ two. cc }
 stands_for (outcome.RangesFull kept) = record { complete = λ zero. absurd (cc); refused = λ one. tt; not_usage = λ two. cc }
+stands_for outcome.Damaged = record { complete = λ zero. absurd (cc); refused = λ one. absurd (cc); not_usage = λ two. cc }
 stands_for outcome.ReadFailed = record { complete = λ zero. absurd (cc); refused = λ one. absurd (cc); not_usage = λ two. cc }
 stands_for outcome.DriveFailed = record { complete = λ zero. absurd (cc); refused = λ one. absurd (cc); not_usage = λ two. cc }
 stands_for outcome.OutOfMemory = record { complete = λ zero. absurd (cc); refused = λ one. absurd (cc); not_usage = λ two. cc }
@@ -63,6 +64,7 @@ made_blames_none (outcome.BadBlock bad) a b c d made input drive = (input, drive
 made_blames_none (outcome.CountRefused error) a b c d made input drive = (input, drive)
 made_blames_none outcome.TooLong a b c d made input drive = absurd made
 made_blames_none (outcome.RangesFull kept) a b c d made input drive = (input, drive)
+made_blames_none outcome.Damaged a b c d made input drive = absurd made
 made_blames_none outcome.ReadFailed a b c d made input drive = absurd made
 made_blames_none outcome.DriveFailed a b c d made input drive = absurd made
 made_blames_none outcome.OutOfMemory a b c d made input drive = (input, drive)
@@ -79,6 +81,7 @@ module _ (old new : FaultCounts) (before after : Option (List ℕ)) (output : ne
   own_answers (outcome.CountRefused error) input drive line = calm (input, drive)
   own_answers outcome.TooLong input drive line = calm (input, drive)
   own_answers (outcome.RangesFull kept) input drive line = calm (input, drive)
+  own_answers outcome.Damaged input drive line = (calm (input, drive), line)
   own_answers outcome.ReadFailed input drive line = (input, output, drive, line)
   own_answers outcome.DriveFailed input drive line = (input, output, drive, line)
   own_answers outcome.OutOfMemory input drive line = (calm (input, drive), line)
@@ -93,18 +96,19 @@ answers_of ending own old new before after (inr (made, inl put)) input drive =
     subst (λ (s : Status). Answers s old new before after) (sym put.0) (calm old new before after put.2 (made_blames_none ending old.input new.input old.drive new.drive made input drive), put.1)
 answers_of ending own old new before after (inr (made, inr failed)) input drive = subst (λ (s : Status). Answers s old new before after) (sym failed.0) failed.1
 
--- where no count rose, what isn't refused is stored, or memory was
-certain_by : (own : Status) (old new : FaultCounts) (before after : Option (List ℕ)) → Answers own old new before after → NoneRose old new → number_of own ≢ 1 → number_of own ≢ 2
-    → (number_of own ≡ 0) ⊎ (number_of own ≡ 6)
-certain_by status.Complete old new before after answers none refused usage = inl refl
-certain_by status.Refused old new before after answers none refused usage = absurd (refused refl)
-certain_by status.Usage old new before after answers none refused usage = absurd (usage refl)
-certain_by status.ReadFailed old new before after answers none refused usage = absurd (none.input answers.0)
-certain_by status.PutFailed old new before after answers none refused usage = absurd (none.output answers)
-certain_by status.DriveFailed old new before after answers none refused usage = absurd (none.drive answers.2)
-certain_by status.OutOfMemory old new before after answers none refused usage = inr refl
+-- where no count rose, the status is that of a file that is stored, of want of memory or of a refusal
+certain_by : (own : Status) (old new : FaultCounts) (before after : Option (List ℕ)) → Answers own old new before after → NoneRose old new → number_of own ≢ 2 → number_of own ≢ 7
+    → (number_of own ≡ 0) ⊎ (number_of own ≡ 6) ⊎ (number_of own ≡ 1)
+certain_by status.Complete old new before after answers none usage damaged = inl refl
+certain_by status.Refused old new before after answers none usage damaged = inr (inr refl)
+certain_by status.Usage old new before after answers none usage damaged = absurd (usage refl)
+certain_by status.ReadFailed old new before after answers none usage damaged = absurd (none.input answers.0)
+certain_by status.PutFailed old new before after answers none usage damaged = absurd (none.output answers)
+certain_by status.DriveFailed old new before after answers none usage damaged = absurd (none.drive answers.2)
+certain_by status.OutOfMemory old new before after answers none usage damaged = inr (inl refl)
+certain_by status.Damaged old new before after answers none usage damaged = absurd (damaged refl)
 
-pub certain_of : (own : Status) (number : ℕ) (old new : FaultCounts) (before after : Option (List ℕ)) → number ≡ number_of own → Answers own old new before after → NoneRose old new → number ≢ 1 → number ≢ 2
-    → (number ≡ 0) ⊎ (number ≡ 6)
+pub certain_of : (own : Status) (number : ℕ) (old new : FaultCounts) (before after : Option (List ℕ)) → number ≡ number_of own → Answers own old new before after → NoneRose old new → number ≢ 2 → number ≢ 7
+    → (number ≡ 0) ⊎ (number ≡ 6) ⊎ (number ≡ 1)
 certain_of own number old new before after is answers none =
-    subst (λ (n : ℕ). n ≢ 1 → n ≢ 2 → (n ≡ 0) ⊎ (n ≡ 6)) (sym is) (certain_by own old new before after answers none)
+    subst (λ (n : ℕ). n ≢ 2 → n ≢ 7 → (n ≡ 0) ⊎ (n ≡ 6) ⊎ (n ≡ 1)) (sym is) (certain_by own old new before after answers none)

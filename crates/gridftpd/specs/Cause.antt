@@ -1,19 +1,19 @@
 -- What each outcome says of the bytes that were taken of the input, and of what is left of it.
-use Rattle.std.specs.Prelude.{◌≡◌, ◌≢◌, ℕ, ◌+◌, ◌<◌, ◌⊎◌, ◌↔◌, List, [], ◌∷◌, ◌++◌, length, Option, None}
+use Rattle.std.specs.Prelude.{◌≡◌, ◌≢◌, ℕ, ◌+◌, ◌<◌, ◌≤◌, ◌⊎◌, ◌↔◌, List, [], ◌∷◌, ◌++◌, length, Option, None}
 use Rattle.std.specs.Prelude.{Some, IsSome}
 use Rattle.std.specs.Io.KnownBytes.{IsAtEnd}
-use Rattle.gft_eblock.specs.Words.{Arrival, Refusal, Eof, Eod, Bad, Arrives, totals, eods, arrivals, data_at}
-use Rattle.gft_eblock.specs.Words.{IsUnfinished, refusal_of}
+use Rattle.gft_eblock.specs.Words.{Arrival, Refusal, At, Eof, Eod, Bad, Arrives, totals, eods, arrivals}
+use Rattle.gft_eblock.specs.Words.{IsUnfinished, data_at, refusal_of}
 use Rattle.gft_core.specs.Words.{Done}
 use Rattle.gft_range.specs.declared.Range.{Range}
-use Rattle.gft_range.specs.Words.{InRange, HasOffset}
+use Rattle.gft_range.specs.Words.{InRange, HasOffset, IsNormal}
 use Rattle.gft_eblock.specs.declared.TheConstants.{MAX_BYTES}
 use Rattle.gft_eod.specs.declared.EodError.{EodError}
-use Rattle.gft_eod.specs.Words.{Count, eof_refusal, eod_refusal}
+use Rattle.gft_eod.specs.Words.{eof_refusal}
 use Rattle.gft_drive.specs.declared.TheConstants.{MAX_RANGES}
 use Rattle.gft_keep.specs.Words.{IsFull, block_of}
 use Rattle.gridftpd.specs.Events.{events_of}
-use Rattle.gridftpd.specs.Totals.{first_of}
+use Rattle.gridftpd.specs.Totals.{first_of, AreAgreed}
 use Rattle.gridftpd.specs.declared.outcome.Outcome.{Outcome}
 use Rattle.gridftpd.specs.declared.outcome.Outcome.TheVariants as outcome
 
@@ -44,52 +44,86 @@ pub record HasHole (stream : List ℕ) (left : Option (List ℕ)) (total : Optio
   pub first_missing : IsFirstMissing (told_by stream) missing
   pub why : (total ≢ Some number) ⊎ IsSome missing
 
--- the count of these arrivals: the first total, and the EODs
-abbrev pub count_of : List Arrival → Count
-count_of list = record { total = first_of (totals list); eods = eods list }
+-- no bad header is among the arrivals
+abbrev pub HasNoBad : List Arrival → Type 0
+HasNoBad [] = Unit {0}
+HasNoBad (At offset value ∷ list) = HasNoBad list
+HasNoBad (Eof total ∷ list) = HasNoBad list
+HasNoBad (Eod ∷ list) = HasNoBad list
+HasNoBad (Bad refusal ∷ list) = ⊥
 
--- why the count refuses what arrives next, if it does
-abbrev pub refusal_at : List Arrival → Arrival → Option EodError
-refusal_at earlier (Eof total) = eof_refusal (count_of earlier) total
-refusal_at earlier Eod = eod_refusal (count_of earlier)
-refusal_at earlier other = None
+-- the normal list of the offsets at which bytes arrive has at most so many ranges
+abbrev pub HasRangesAtMost : ℕ → List Arrival → Type 0
+HasRangesAtMost most list =
+    (ranges : List Range) → IsNormal ranges → ((x : ℕ) → HasOffset ranges x ↔ Arrives list x)
+    → length ranges ≤ most
 
--- the count refuses one of the arrivals
-pub record IsMiscounted (list : List Arrival) (error : EodError) : Type 0 where
-  pub earlier : List Arrival
-  pub arrival : Arrival
-  pub later : List Arrival
-  pub split : list ≡ earlier ++ arrival ∷ later
-  pub refused : refusal_at earlier arrival ≡ Some error
+-- nothing that ends an intake is among the arrivals: no EOD, no bad header, no total that is refused, and at
+-- most one range more than may be kept, which the rest of its piece may still join
+pub record EndsNothing (list : List Arrival) : Type 0 where
+  pub unfinished : IsUnfinished list
+  pub agreed : AreAgreed (totals list)
+  pub few : HasRangesAtMost (MAX_RANGES + 1) list
 
--- as many ranges arrived as may be kept, and a piece of data would make one more
-pub record NeedsMoreRanges (list : List Arrival) : Type 0 where
-  pub earlier : List Arrival
+-- nothing but ranges can refuse these bytes: they are fewer than 2^58, and bring no bad header and no total
+-- that is refused
+pub record IsSoundStream (stream : List ℕ) : Type 0 where
+  pub short : length stream < MAX_BYTES
+  pub no_bad : HasNoBad (told_by stream)
+  pub agreed : AreAgreed (totals (told_by stream))
+
+-- nothing that refuses an intake before its EOD was met in these bytes
+pub record MeetsNone (stream : List ℕ) : Type 0 where
+  pub sound : IsSoundStream stream
+  pub few : HasRangesAtMost MAX_RANGES (told_by stream)
+
+-- the first of the totals that is refused, and why
+pub record IsMiscounted (stream : List ℕ) (error : EodError) : Type 0 where
+  pub short : length stream < MAX_BYTES
+  pub earlier : List ℕ
+  pub total : ℕ
+  pub later : List ℕ
+  pub split : totals (told_by stream) ≡ earlier ++ total ∷ later
+  pub agreed : AreAgreed earlier
+  pub refused : eof_refusal (record { total = first_of earlier; eods = 0 }) total ≡ Some error
+  pub few : HasRangesAtMost MAX_RANGES (told_by stream)
+
+-- as many ranges arrived as may be kept, and a piece of data behind them makes one more
+pub record NeedsMoreRanges (stream : List ℕ) : Type 0 where
+  pub sound : IsSoundStream stream
+  pub front : List ℕ
+  pub piece : List ℕ
+  pub split : stream ≡ front ++ piece
   pub offset : ℕ
   pub bytes : List ℕ
-  pub later : List Arrival
-  pub split : list ≡ earlier ++ (data_at offset bytes ++ later)
+  pub behind : List Arrival
+  pub brought : told_by stream ≡ told_by front ++ (data_at offset bytes ++ behind)
   pub ranges : List Range
-  pub offsets : (x : ℕ) → HasOffset ranges x ↔ Arrives earlier x
+  pub offsets : (x : ℕ) → HasOffset ranges x ↔ Arrives (told_by front) x
   pub full : IsFull ranges (block_of offset bytes)
 
 -- a bad header ends the arrivals, and its 17th byte is the last that was taken
 pub record EndsBad (stream : List ℕ) (refused : Refusal) : Type 0 where
+  pub short : length stream < MAX_BYTES
   pub earlier : List Arrival
   pub unfinished : IsUnfinished earlier
   pub split : told_by stream ≡ earlier ++ Bad refused ∷ []
   pub last : length stream ≡ refused.place + 17
+  pub agreed : AreAgreed (totals (told_by stream))
+  pub few : HasRangesAtMost MAX_RANGES (told_by stream)
 
--- what an outcome says of the bytes that were taken, and of those that are left; a fault and want of memory
--- say nothing of them
+-- what an outcome says of the bytes that were taken, and of those that are left: it is met, and nothing that is
+-- answered before it is; a fault, want of memory and a damage are met by no byte
 abbrev pub IsCause : Outcome → List ℕ → Option (List ℕ) → Type 0
-IsCause outcome.Complete stream left = Done (events_of (told_by stream))
-IsCause (outcome.Lost taken) stream left = IsLost stream left taken
-IsCause (outcome.Hole total number missing) stream left = HasHole stream left total number missing
+IsCause outcome.Complete stream left = MeetsNone stream × Done (events_of (told_by stream))
+IsCause (outcome.Lost taken) stream left = MeetsNone stream × IsLost stream left taken
+IsCause (outcome.Hole total number missing) stream left =
+    MeetsNone stream × HasHole stream left total number missing
 IsCause (outcome.BadBlock bad) stream left = EndsBad stream (refusal_of bad)
-IsCause (outcome.CountRefused error) stream left = IsMiscounted (told_by stream) error
+IsCause (outcome.CountRefused error) stream left = IsMiscounted stream error
 IsCause outcome.TooLong stream left = length stream ≡ MAX_BYTES
-IsCause (outcome.RangesFull kept) stream left = (kept ≡ MAX_RANGES) × NeedsMoreRanges (told_by stream)
-IsCause outcome.ReadFailed stream left = Unit {0}
-IsCause outcome.DriveFailed stream left = Unit {0}
-IsCause outcome.OutOfMemory stream left = Unit {0}
+IsCause (outcome.RangesFull kept) stream left = (kept ≡ MAX_RANGES) × NeedsMoreRanges stream
+IsCause outcome.Damaged stream left = stream ≡ []
+IsCause outcome.ReadFailed stream left = MeetsNone stream × IsUnfinished (told_by stream)
+IsCause outcome.DriveFailed stream left = MeetsNone stream
+IsCause outcome.OutOfMemory stream left = MeetsNone stream

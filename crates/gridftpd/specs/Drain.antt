@@ -1,36 +1,33 @@
 -- What `gridftpd drain` promises.
-use Rattle.std.specs.Prelude.{◌≡◌, ℕ, ◌<◌, ◌⊎◌, List, [], ◌∷◌, length, take, slice_get, Option, Some}
+use Rattle.std.specs.Prelude.{◌≡◌, ℕ, ◌<◌, ◌≤◌, ◌⊎◌, List, [], ◌∷◌, length, take, slice_get, Option, Some}
 use Rattle.std.specs.Io.KnownBytes.{Consumes, Appends}
 use Rattle.gft_base.specs.Words.{Rose}
-use Rattle.gft_eblock.specs.Words.{Arrival, At, Eof, Eod, Bad, Arrives, eods, IsUnfinished, HasEnded}
+use Rattle.gft_eblock.specs.Words.{Arrival, At, Eof, Eod, Bad, Arrives, eods, HasEnded}
 use Rattle.gft_core.specs.Words.{Done}
-use Rattle.gft_drive.specs.Words.{DriveState, Reads}
-use Rattle.gft_drive.specs.declared.Part.TheVariants.{Bytes}
+use Rattle.gft_drive.specs.Words.{DriveState, Goes, Image}
+use Rattle.gft_drive.specs.declared.TheConstants.{MAX_RANGES}
 use Rattle.gft_eblock.specs.declared.TheConstants.{MAX_BYTES}
-use Rattle.gridftpd.specs.Cause.{told_by, NeedsMoreRanges}
-use Rattle.gridftpd.specs.Events.{events_of, IsKept}
-use Rattle.gridftpd.specs.Line.{text_of, complete_text, drive_failed_text, out_of_memory_text}
-use Rattle.gridftpd.specs.Line.{read_failed_text, usage_text}
-use Rattle.gridftpd.specs.Status.{status_of}
+use Rattle.gridftpd.specs.Cause.{told_by, EndsNothing, IsCause, NeedsMoreRanges}
+use Rattle.gridftpd.specs.Events.{events_of}
+use Rattle.gridftpd.specs.Images.{FindsDamage, HoldsAtEnd}
+use Rattle.gridftpd.specs.Line.{text_of, complete_text, damaged_text, drive_failed_text, out_of_memory_text}
+use Rattle.gridftpd.specs.Line.{ranges_full_text, read_failed_text, usage_text}
+use Rattle.gridftpd.specs.Status.{number_of, status_of}
 use Rattle.gridftpd.specs.declared.outcome.Outcome.{Outcome}
 use Rattle.gridftpd.specs.declared.outcome.Outcome.TheVariants as outcome
 use Rattle.gridftpd.specs.declared.status.Status.{Status}
 use Rattle.gridftpd.specs.declared.status.Status.TheVariants as status
 
--- these bytes were taken of the input, and no part of them has an EOD or a bad header: what follows is unread
+-- these bytes were taken of the input, at most 2^58, and none of their shorter fronts has what ends an intake:
+-- what follows is unread
 pub record IsTaken (before after : Option (List ℕ)) (stream : List ℕ) : Type 0 where
   pub consumed : Consumes before after stream
-  pub in_time : (n : ℕ) → n < length stream → IsUnfinished (told_by (take n stream))
+  pub few : length stream ≤ MAX_BYTES
+  pub in_time : (n : ℕ) → n < length stream → EndsNothing (told_by (take n stream))
 
--- the transfer is done, and the data is now its kept bytes and no byte more
-abbrev pub IsStored : List ℕ → DriveState → DriveState → Type 0
-IsStored stream old new =
-    Done (events_of (told_by stream))
-    × Reads Bytes (λ before after. IsKept (events_of (told_by stream)) after) old new
-
--- the data is now the source, and no byte more
-abbrev pub IsFile : List ℕ → List ℕ → List ℕ → Type 0
-IsFile source before after = after ≡ source
+-- the data is the source, and no byte more
+abbrev pub IsFile : List ℕ → Image → Type 0
+IsFile source image = image.bytes ≡ source
 
 -- the line was put, the status is its own and no put failed; or the put failed
 abbrev pub IsPut : Status → List ℕ → Status → Option (List ℕ) → Option (List ℕ) → ℕ → ℕ → Type 0
@@ -42,6 +39,7 @@ IsPut own line result before after faults risen =
 abbrev pub IsMade : Outcome → Type 0
 IsMade outcome.Complete = ⊥
 IsMade outcome.TooLong = ⊥
+IsMade outcome.Damaged = ⊥
 IsMade outcome.ReadFailed = ⊥
 IsMade outcome.DriveFailed = ⊥
 IsMade other = Unit {0}
@@ -94,6 +92,7 @@ Answers status.DriveFailed old new before after =
     × Appends before after drive_failed_text
 Answers status.OutOfMemory old new before after =
     NoneCounted old new × Appends before after out_of_memory_text
+Answers status.Damaged old new before after = NoneCounted old new × Appends before after damaged_text
 
 -- the outcomes that are refused by a 426 or a 452 line
 abbrev pub IsRefusal : Outcome → Type 0
@@ -118,9 +117,29 @@ pub record IsHonest (source : List ℕ) (list : List Arrival) : Type 0 where
   pub truthful : IsTruthful source list
   pub whole : 0 < eods list → (x : ℕ) → x < length source → Arrives list x
 
--- an input that makes a transfer done, with an EOD (or a bad header) within 2^58 bytes, and no piece of which
--- needs more ranges than may be kept
+-- an input that makes a transfer done, with its EOD within fewer than 2^58 bytes
 pub record IsGood (bytes : List ℕ) : Type 0 where
   pub done : Done (events_of (told_by bytes))
   pub soon : (n : ℕ) × (n < MAX_BYTES) × HasEnded (told_by (take n bytes))
-  pub few_ranges : ¬ NeedsMoreRanges (told_by bytes)
+
+-- how right words end: by the first cause that is met, with its line; what follows is unread, and whatever the
+-- cause, what is kept is held by what a read gives and by each image that a crash may leave
+pub record EndsAs (number : ℕ) (before after : Option (List ℕ)) (written put : Option (List ℕ))
+    (faults risen : ℕ) (old new : DriveState) : Type 0 where
+  pub ending : Outcome
+  pub stream : List ℕ
+  pub taken : IsTaken before after stream
+  pub cause : IsCause ending stream after
+  pub own : Status
+  pub number_is : number ≡ number_of own
+  pub told : IsTold ending own written put faults risen
+  pub damage : FindsDamage ending old
+  pub holds : HoldsAtEnd ending stream old new
+  pub goes : Goes old new
+
+-- the ranges were full, and the line says so
+pub record FillsRanges (before after : Option (List ℕ)) (written put : Option (List ℕ)) : Type 0 where
+  pub stream : List ℕ
+  pub taken : IsTaken before after stream
+  pub cause : NeedsMoreRanges stream
+  pub line : Appends written put (ranges_full_text MAX_RANGES)

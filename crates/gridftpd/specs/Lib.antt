@@ -2,6 +2,7 @@ pub mod Cause
 pub mod Drain
 pub mod Events
 pub mod Follows
+pub mod Images
 pub mod Line
 pub mod Status
 pub mod Totals

@@ -54,6 +54,9 @@ read_failed_text = codes "451 Read failed.\n"
 unfoldable pub drive_failed_text : List ℕ
 drive_failed_text = codes "451 Drive failed.\n"
 
+unfoldable pub damaged_text : List ℕ
+damaged_text = codes "451 Journal damaged.\n"
+
 unfoldable pub out_of_memory_text : List ℕ
 out_of_memory_text = codes "455 Out of memory.\n"
 
@@ -65,6 +68,7 @@ text_of (outcome.BadBlock bad) = bad_block_text bad
 text_of (outcome.CountRefused error) = count_refused_text error
 text_of outcome.TooLong = too_long_text
 text_of (outcome.RangesFull kept) = ranges_full_text kept
+text_of outcome.Damaged = damaged_text
 text_of outcome.ReadFailed = read_failed_text
 text_of outcome.DriveFailed = drive_failed_text
 text_of outcome.OutOfMemory = out_of_memory_text

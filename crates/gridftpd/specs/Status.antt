@@ -13,6 +13,7 @@ number_of status.ReadFailed = 3
 number_of status.PutFailed = 4
 number_of status.DriveFailed = 5
 number_of status.OutOfMemory = 6
+number_of status.Damaged = 7
 
 abbrev pub status_of : Outcome → Status
 status_of outcome.Complete = status.Complete
@@ -22,6 +23,7 @@ status_of (outcome.BadBlock bad) = status.Refused
 status_of (outcome.CountRefused error) = status.Refused
 status_of outcome.TooLong = status.Refused
 status_of (outcome.RangesFull kept) = status.Refused
+status_of outcome.Damaged = status.Damaged
 status_of outcome.ReadFailed = status.ReadFailed
 status_of outcome.DriveFailed = status.DriveFailed
 status_of outcome.OutOfMemory = status.OutOfMemory

@@ -1,32 +1,30 @@
 ghost use Rattle.std.specs.Prelude.{◌≡◌, ◌≢◌, ◌⊎◌, ℕ, List, Some, IsSomeAnd, IfOk, OnErr, string_bytes};
 ghost use Rattle.std.specs.Io.KnownBytes.{Appends};
-ghost use Rattle.gft_drive.specs.Words.{Goes, Reads};
-ghost use Rattle.gft_drive.specs.declared.Part.TheVariants.{Bytes};
+ghost use Rattle.gft_drive.specs.Words.{Goes};
 ghost use Rattle.gridftpd.specs.DrainWords.{AreDrainWords, name_in};
 ghost use Rattle.gridftpd.specs.Cause.{IsCause, told_by};
-ghost use Rattle.gridftpd.specs.Drain.{Answers, FaultCounts, NoneRose, IsPut, IsRefusal, IsTold};
-ghost use Rattle.gridftpd.specs.Drain.{DriveIsBlamed, InputIsBlamed, IsFile, IsGood, IsHonest, IsStored};
+ghost use Rattle.gridftpd.specs.Drain.{Answers, EndsAs, FaultCounts, FillsRanges, NoneRose, IsPut, IsTold};
+ghost use Rattle.gridftpd.specs.Drain.{DriveIsBlamed, InputIsBlamed, IsFile, IsGood, IsHonest};
+ghost use Rattle.gridftpd.specs.Images.{FindsDamage, HoldsAtEnd, IsStored, OfEach};
+ghost use Rattle.gridftpd.specs.Turn.{outcome_of};
 ghost use Rattle.gridftpd.specs.Drain.{IsTaken};
-ghost use Rattle.gridftpd.specs.Line.{usage_text, text_of, out_of_memory_text};
+ghost use Rattle.gridftpd.specs.Line.{usage_text, out_of_memory_text};
 ghost use Rattle.gridftpd.specs.Status.{number_of};
-ghost use Rattle.gridftpd.specs.declared.outcome.Outcome.{Outcome};
 ghost use Rattle.gridftpd.specs.declared.status.Status.{Status};
 
 use crate::intake::Intake;
 use crate::line::{
-    bad_block_line, complete_line, count_refused_line, drive_failed_line, hole_line, lost_line,
-    out_of_memory_line, ranges_full_line, read_failed_line, too_long_line, usage_line,
+    bad_block_line, complete_line, count_refused_line, damaged_line, drive_failed_line, hole_line,
+    lost_line, out_of_memory_line, ranges_full_line, read_failed_line, too_long_line, usage_line,
 };
 use crate::outcome::Outcome;
+use crate::reading::READ_LEN;
 use crate::status::Status;
 use crate::words::are_drain_words;
 use gft_base::Failed;
 use gft_drive::{Drive, Origin, Sink, Source};
 use gft_keep::{AttachError, Keep};
 use std::alloc::{AllocError, Global};
-
-/// The most bytes of one read.
-const READ_LEN: usize = 65_536;
 
 /// Stores one recorded data connection (GFD.20, extended block mode) as a file, prints one line, and
 /// gives the exit status with the drive. It reads up to the EOD, and leaves what follows unread.
@@ -41,10 +39,13 @@ const READ_LEN: usize = 65_536;
 /// | 4 | a part of the line: a put failed |
 /// | 5 | `451 Drive failed.`: a call of the drive failed |
 /// | 6 | `455 Out of memory.` |
+/// | 7 | `451 Journal damaged.`: what the drive keeps of its ranges can't be read, or its data is
+/// shorter than they are; nothing was changed |
 ///
 /// Each of 3, 4 and 5 comes only where a count of faults rose in this call, and no other status but
 /// 4 where one of the input or of the drive did: want of memory hides no fault. The drive comes back
-/// at every status; other words leave it and the input untouched.
+/// at every status; other words leave it and the input untouched. Whatever the status, what is kept is
+/// held by every image that a crash may leave.
 pub fn drain<I: Source, W: Sink, D: Drive + Drop, O: Origin>(
     alloc: Global,
     words: &[String],
@@ -56,16 +57,10 @@ pub fn drain<I: Source, W: Sink, D: Drive + Drop, O: Origin>(
     // The drive is the file that the words name.
     requires label { AreDrainWords words.now → (D.state drive).label ≡ name_in words.now }
 
-    // Status 0 only where the arrivals up to the EOD are done; then the file is the kept bytes.
+    // Status 0 only where the arrivals up to the EOD are done; then the file is the kept bytes, complete.
     ensures complete { result.0 ≡ 0 → (stream : List ℕ)
         × IsTaken (I.left input.old) (I.left input.new) stream
-        × IsSomeAnd result.1 (λ back. IsStored stream (D.state drive) (D.state back)) }
-
-    // Status 1 only with the line of an outcome that the bytes taken show.
-    ensures refused { result.0 ≡ 1 → (outcome : Outcome) × (stream : List ℕ)
-        × IsTaken (I.left input.old) (I.left input.new) stream
-        × IsRefusal outcome × IsCause outcome stream (I.left input.new)
-        × Appends (W.written out.old) (W.written out.new) (text_of outcome) }
+        × IsSomeAnd result.1 (λ back. IsStored stream (D.state back)) }
 
     // Each status has its line, and its faults: none is passed over.
     ensures told { (status : Status) × (result.0 ≡ number_of status)
@@ -77,22 +72,28 @@ pub fn drain<I: Source, W: Sink, D: Drive + Drop, O: Origin>(
     // Other words touch nothing but the line.
     ensures other_words { ¬ AreDrainWords words.now
         → ((result.0 ≡ 2) ⊎ (result.0 ≡ 4)) × (result.1 ≡ Some drive) × (input.new ≡ input.old) }
-    ensures right_words { AreDrainWords words.now
-        → (result.0 ≢ 2) × IsSomeAnd result.1 (λ back. Goes (D.state drive) (D.state back)) }
+    // Right words end as the first cause that is met says; what follows it is unread, and what is kept stays
+    // over a crash.
+    ensures right_words { AreDrainWords words.now → (result.0 ≢ 2)
+        × IsSomeAnd result.1 (λ back. EndsAs result.0 (I.left input.old) (I.left input.new)
+        (W.written out.old) (W.written out.new) (W.faults out.old) (W.faults out.new)
+        (D.state drive) (D.state back)) }
 
-    // A good input is stored where no fault was counted, unless memory was refused.
+    // A good input is stored where no fault was counted and the journal isn't damaged, unless memory was
+    // refused or the ranges were full.
     ensures certain { AreDrainWords words.now
         → (bytes : List ℕ) → I.left input.old ≡ Some bytes → IsGood bytes
         → IsSomeAnd result.1 (λ back. NoneRose
         (record { input = I.faults input.old; output = W.faults out.old; drive = (D.state drive).faults })
         (record { input = I.faults input.new; output = W.faults out.new; drive = (D.state back).faults }))
-        → (result.0 ≡ 0) ⊎ (result.0 ≡ 6) }
+        → result.0 ≢ 7 → (result.0 ≡ 0) ⊎ (result.0 ≡ 6) ⊎ ((result.0 ≡ 1)
+        × FillsRanges (I.left input.old) (I.left input.new) (W.written out.old) (W.written out.new)) }
 
     // From an honest sender of a named source, status 0 comes only with the equal file.
     ensures equal { (source bytes : List ℕ) → O.source (D.state drive).label ≡ Some source
         → I.left input.old ≡ Some bytes → IsHonest source (told_by bytes)
         → result.0 ≡ 0
-        → IsSomeAnd result.1 (λ back. Reads Bytes (IsFile source) (D.state drive) (D.state back)) }
+        → IsSomeAnd result.1 (λ back. OfEach (D.state back) (IsFile source)) }
 {
     if !are_drain_words(words) {
         return (refuse_words(out).number(), Some(drive));
@@ -105,7 +106,9 @@ pub fn drain<I: Source, W: Sink, D: Drive + Drop, O: Origin>(
 fn store_input<I: Source, D: Drive + Drop>(alloc: Global, input: &mut I, drive: D) -> (Outcome, D)
     ensures caused { (stream : List ℕ) × IsTaken (I.left input.old) (I.left input.new) stream
         × IsCause result.0 stream (I.left input.new)
-        × (result.0 ≡ Outcome.Complete → IsStored stream (D.state drive) (D.state result.1)) }
+        × HoldsAtEnd result.0 stream (D.state drive) (D.state result.1)
+        × (result.0 ≡ Outcome.Complete → IsStored stream (D.state result.1)) }
+    ensures damage { FindsDamage result.0 (D.state drive) }
     ensures input { InputIsBlamed result.0 (I.faults input.old) (I.faults input.new) }
     ensures drive { DriveIsBlamed result.0 (D.state drive).faults (D.state result.1).faults }
     ensures goes { Goes (D.state drive) (D.state result.1) }
@@ -115,7 +118,7 @@ fn store_input<I: Source, D: Drive + Drop>(alloc: Global, input: &mut I, drive: 
     };
     let mut keep = match Keep::attach(alloc, drive) {
         Ok(keep) => keep,
-        Err((AttachError::Failed, drive)) => return (Outcome::DriveFailed, drive),
+        Err((error, drive)) => return (not_attached(error), drive),
     };
     if let Err(Failed) = keep.fresh() {
         return (Outcome::DriveFailed, keep.into_drive());
@@ -123,6 +126,17 @@ fn store_input<I: Source, D: Drive + Drop>(alloc: Global, input: &mut I, drive: 
     let mut intake = Intake::new(keep);
     let outcome = intake.run(input, &mut buf);
     (outcome, intake.into_drive())
+}
+
+/// The outcome where the drive is no keep.
+fn not_attached(error: AttachError) -> Outcome
+    ensures { result ≡ outcome_of error }
+{
+    match error {
+        AttachError::Failed => Outcome::DriveFailed,
+        AttachError::OutOfMemory => Outcome::OutOfMemory,
+        AttachError::Damaged(_) => Outcome::Damaged,
+    }
 }
 
 /// Prints the line of an outcome, and gives its status.
@@ -143,6 +157,7 @@ pub(crate) fn tell<W: Sink>(alloc: Global, out: &mut W, outcome: &Outcome) -> St
         Outcome::CountRefused(error) => put_made(out, count_refused_line(alloc, error)),
         Outcome::TooLong => put(out, too_long_line(), Status::Refused),
         Outcome::RangesFull { kept } => put_made(out, ranges_full_line(alloc, kept)),
+        Outcome::Damaged => put(out, damaged_line(), Status::Damaged),
         Outcome::ReadFailed => put(out, read_failed_line(), Status::ReadFailed),
         Outcome::DriveFailed => put(out, drive_failed_line(), Status::DriveFailed),
         Outcome::OutOfMemory => refuse_memory(out),

@@ -2,15 +2,16 @@ ghost use Rattle.std.specs.Prelude.{◌≡◌, ℕ, ◌+◌, ◌<◌, ◌≤◌,
 ghost use Rattle.std.specs.Prelude.{IsTrue, IfErr, IfOk, MatchResult, ◌⊎◌, if◌then◌else◌, false, None};
 ghost use Rattle.std.specs.Prelude.{Option};
 ghost use Rattle.std.specs.Io.KnownBytes.{IsAtEnd};
-ghost use Rattle.gft_drive.specs.Words.{Goes, Image};
+ghost use Rattle.gft_drive.specs.Words.{Goes};
 ghost use Rattle.gft_eblock.specs.Words.{wanted, IsDone};
-ghost use Rattle.gft_keep.specs.Words.{drive_of, Holds, IsWhole, keep_of};
+ghost use Rattle.gft_keep.specs.Words.{drive_of, IsOpen, keep_of};
 ghost use Rattle.gridftpd.specs.Cause.{IsCause};
-ghost use Rattle.gridftpd.specs.Drain.{DriveIsBlamed, InputIsBlamed, IsTaken, IsStored};
-ghost use Rattle.gridftpd.specs.Turn.{IsTurnsOutcome, IsEndsOutcome};
+ghost use Rattle.gridftpd.specs.Drain.{DriveIsBlamed, InputIsBlamed, IsTaken};
+ghost use Rattle.gridftpd.specs.Images.{HoldsTaken, IsStored};
+ghost use Rattle.gridftpd.specs.Turn.{IsTurnsOutcome, IsEndsOutcome, IsRunsOutcome};
 
 use crate::outcome::Outcome;
-use crate::reading::read_next;
+use crate::reading::{READ_LEN, read_next};
 use gft_base::Failed;
 use gft_drive::{Drive, Source};
 use gft_eblock::{Channel, Event, MAX_BYTES};
@@ -27,13 +28,13 @@ pub(crate) struct Intake<D: Drive + Drop> {
 }
 
 impl<D: Drive + Drop> Intake<D> {
-    ghost use Rattle.gridftpd.specs.Follows.{Follows, seen, start_of};
+    ghost use Rattle.gridftpd.specs.Follows.{Follows};
 
     /// An intake before its first byte.
     pub(crate) fn new(keep: Keep<D>) -> Self
-        requires whole { IsWhole (keep_of D.state keep) }
+        requires is_open { IsOpen (keep_of D.state keep) }
         requires empty { (keep_of D.state keep).ranges ≡ [] }
-        ensures follows { Follows D.state (seen (keep_of D.state keep).drive) 0 [] result }
+        ensures follows { Follows D.state 0 [] result }
         ensures not_done { ¬ IsDone result.channel }
         ensures keep { result.keep ≡ keep }
     {
@@ -53,13 +54,13 @@ impl<D: Drive + Drop> Intake<D> {
 
     /// Takes one recorded data connection up to its EOD or the end of the input.
     pub(crate) fn run<I: Source>(&mut self, input: &mut I, buf: &mut [u8]) -> Outcome
-        requires room { 0 < length buf.old }
-        requires follows { Follows D.state (seen (keep_of D.state self.old.keep).drive) 0 [] self.old }
+        requires room { (0 < length buf.old) × (length buf.old ≤ READ_LEN) }
+        requires follows { Follows D.state 0 [] self.old }
         requires not_done { ¬ IsDone self.old.channel }
         ensures caused { (stream : List ℕ) × IsTaken (I.left input.old) (I.left input.new) stream
-            × IsCause result stream (I.left input.new)
-            × (result ≡ Outcome.Complete → IsStored stream
-            (keep_of D.state self.old.keep).drive (keep_of D.state self.new.keep).drive) }
+            × IsCause result stream (I.left input.new) × IsRunsOutcome result
+            × HoldsTaken result stream (keep_of D.state self.new.keep).drive
+            × (result ≡ Outcome.Complete → IsStored stream (keep_of D.state self.new.keep).drive) }
         ensures input { InputIsBlamed result (I.faults input.old) (I.faults input.new) }
         ensures drive { DriveIsBlamed result (keep_of D.state self.old.keep).drive.faults
             (keep_of D.state self.new.keep).drive.faults }
@@ -88,19 +89,17 @@ impl<D: Drive + Drop> Intake<D> {
     /// Feeds one piece, and tells whether the EOD came.
     fn turn(&mut self, piece: &[u8]) -> Result<bool, Outcome>
         requires not_done { ¬ IsDone self.old.channel }
-        requires room { self.old.channel.taken + length piece.now ≤ MAX_BYTES }
+        requires room { self.old.channel.taken + length piece.now < MAX_BYTES }
         requires wanted { length piece.now ≤ wanted self.old.channel }
-        requires whole { IsWhole (keep_of D.state self.old.keep) }
-        requires holds { Holds (keep_of D.state self.old.keep).ranges (keep_of D.state self.old.keep).drive }
-        ensures follows { IfOk result (λ ended. (label : List ℕ) (contents : Option Image) (stream : List ℕ)
-            → Follows D.state (start_of label contents) 0 stream self.old
-            → Follows D.state (start_of label contents) (if ended then 1 else 0)
-                (stream ++ piece.now) self.new) }
+        requires one_read { length piece.now ≤ READ_LEN }
+        requires is_open { IsOpen (keep_of D.state self.old.keep) }
+        ensures follows { IfOk result (λ ended. (stream : List ℕ) → Follows D.state 0 stream self.old
+            → Follows D.state (if ended then 1 else 0) (stream ++ piece.now) self.new) }
         ensures ended { IfOk result (λ ended. IsTrue ended ↔ IsDone self.new.channel) }
         ensures waiting { IfOk result (λ ended. wanted self.old.channel ≡ 0 → IsTrue ended) }
-        ensures caused { IfErr result (λ outcome. (label : List ℕ) (contents : Option Image) (stream : List ℕ)
-            (left : Option (List ℕ)) → Follows D.state (start_of label contents) 0 stream self.old
-            → IsCause outcome (stream ++ piece.now) left) }
+        ensures caused { IfErr result (λ outcome. (stream : List ℕ) (left : Option (List ℕ))
+            → Follows D.state 0 stream self.old → IsCause outcome (stream ++ piece.now) left
+            × HoldsTaken outcome (stream ++ piece.now) (keep_of D.state self.new.keep).drive) }
         ensures which { IfErr result IsTurnsOutcome }
         ensures drive { let before = (keep_of D.state self.old.keep).drive.faults in
             let now = (keep_of D.state self.new.keep).drive.faults in
@@ -135,9 +134,9 @@ impl<D: Drive + Drop> Intake<D> {
     /// The outcome where the input ended before the EOD.
     fn lost(&self) -> Outcome
         requires awaits { 0 < wanted self.now.channel }
-        ensures caused { (label : List ℕ) (contents : Option Image) (stream : List ℕ) (left : Option (List ℕ))
-            → Follows D.state (start_of label contents) 0 stream self.now → IsAtEnd left
-            → IsCause result stream left }
+        ensures caused { (stream : List ℕ) (left : Option (List ℕ)) → Follows D.state 0 stream self.now
+            → IsAtEnd left → IsCause result stream left
+            × HoldsTaken result stream (keep_of D.state self.now.keep).drive }
         ensures which { (result ≡ Outcome.Hole None 0 None) ⊎ (result ≡ Outcome.Lost self.now.channel.taken) }
     {
         let taken = self.channel.taken();
@@ -153,15 +152,12 @@ impl<D: Drive + Drop> Intake<D> {
 
     /// The outcome where the EOD came.
     fn finish(&mut self) -> Outcome
-        requires whole { IsWhole (keep_of D.state self.old.keep) }
-        requires holds { Holds (keep_of D.state self.old.keep).ranges (keep_of D.state self.old.keep).drive }
-        ensures caused { (label : List ℕ) (contents : Option Image) (stream : List ℕ) (left : Option (List ℕ))
-            → Follows D.state (start_of label contents) 1 stream self.old → IsDone self.old.channel
-            → IsCause result stream left }
-        ensures complete { (label : List ℕ) (contents : Option Image) (stream : List ℕ)
-            → Follows D.state (start_of label contents) 1 stream self.old → IsDone self.old.channel
-            → result ≡ Outcome.Complete
-            → IsStored stream (start_of label contents) (keep_of D.state self.new.keep).drive }
+        requires is_open { IsOpen (keep_of D.state self.old.keep) }
+        ensures caused { (stream : List ℕ) (left : Option (List ℕ)) → Follows D.state 1 stream self.old
+            → IsDone self.old.channel → IsCause result stream left
+            × HoldsTaken result stream (keep_of D.state self.new.keep).drive }
+        ensures complete { (stream : List ℕ) → Follows D.state 1 stream self.old → IsDone self.old.channel
+            → result ≡ Outcome.Complete → IsStored stream (keep_of D.state self.new.keep).drive }
         ensures which { IsEndsOutcome result }
         ensures drive { DriveIsBlamed result (keep_of D.state self.old.keep).drive.faults
             (keep_of D.state self.new.keep).drive.faults }

@@ -28,6 +28,8 @@ pub enum Outcome {
     RangesFull {
         kept: u64,
     },
+    /// What the drive keeps of its ranges is damaged, or its data is shorter than they are.
+    Damaged,
     /// A read failed.
     ReadFailed,
     /// A call of the drive failed.

@@ -13,10 +13,11 @@ pub enum Status {
     PutFailed,
     DriveFailed,
     OutOfMemory,
+    Damaged,
 }
 
 impl Status {
-    /// The number that the process ends with, 0 to 6.
+    /// The number that the process ends with, 0 to 7.
     pub fn number(self) -> u8
         ensures { result ≡ number_of self }
     {
@@ -28,6 +29,7 @@ impl Status {
             Status::PutFailed => 4,
             Status::DriveFailed => 5,
             Status::OutOfMemory => 6,
+            Status::Damaged => 7,
         }
     }
 }

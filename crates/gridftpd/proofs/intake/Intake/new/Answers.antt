@@ -2,9 +2,6 @@ use Rattle.std.proofs.Common.{ℕ, [], List, refl, sym, subst, arith}
 use Rattle.gft_keep.specs.Words.{keep_of}
 use Rattle.gft_range.specs.declared.Range.{Range}
 use Rattle.gft_range.specs.Words.{HasOffset}
-use Rattle.gft_drive.proofs.Lemmas.{Reads-same}
-use Rattle.gft_drive.specs.declared.Part.TheVariants.{Bytes}
-use Rattle.gridftpd.specs.Follows.{HasKeptIn}
 use Rattle.gridftpd.proofs.intake.Intake.new.Goals as goal
 
 pub returns-clause-follows : goal.returns-clause-follows
@@ -13,15 +10,18 @@ returns-clause-follows g c =
     record {
       told = [];
       carried = λ later. sym (c.new.ensures.to_come later);
-      offsets = λ x. (none x, λ came. absurd came);
-      kept = Reads-same Bytes (HasKeptIn [] (keep_of g.D.Drive.state c.args.keep).ranges) (keep_of g.D.Drive.state c.args.keep).drive (λ xs x had. absurd (none x had));
-      holds = λ image told x had. absurd (none x had);
-      goes = record { label = refl; tells = (λ some. some, λ some. some) };
-      whole = c.requires.whole;
-      counted = record { total = c.new-2.ensures.total; eods = c.new-2.ensures.eods; agreed = λ total first. tt };
+      booked = record {
+        offsets = λ x. (none x, λ came. absurd came);
+        normal = c.requires.is_open.unbroken.facts.normal;
+        few = c.requires.is_open.unbroken.facts.few;
+      };
+      kept = λ read told x had. absurd (none x had);
+      is_open = c.requires.is_open;
+      counted = record { total = c.new-2.ensures.total; eods = c.new-2.ensures.eods; agreed = tt };
       sound = tt;
       eods = refl;
       taken = c.new.ensures.taken;
+      short = omega arith;
       unfinished = λ zero. tt;
       in_time = λ n lt. absurd (omega arith);
     }
