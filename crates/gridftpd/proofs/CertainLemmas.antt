@@ -13,7 +13,7 @@ use Rattle.gridftpd.specs.declared.outcome.Outcome.TheVariants as outcome
 use Rattle.gridftpd.specs.Cause.{told_by, EndsNothing, IsCause, IsLost, HasHole, IsFirstMissing, IsMiscounted, NeedsMoreRanges, EndsBad}
 use Rattle.std.specs.Io.KnownBytes.{Appends}
 use Rattle.gridftpd.specs.Line.{text_of}
-use Rattle.gridftpd.specs.Drain.{FillsRanges, IsTaken, IsGood, IsRefusal}
+use Rattle.gridftpd.specs.Drain.{FillsRanges, IsTaken, IsGoodInput, IsRefusal}
 use Rattle.gridftpd.proofs.DoneLemmas.{SaysDone, says_done}
 use Rattle.gridftpd.proofs.ArrivalLemmas.{eods-append}
 use Rattle.gridftpd.proofs.EndLemmas.{no_arrivals}
@@ -33,7 +33,7 @@ HasEnded-bad (Eof total ∷ list) refused = HasEnded-bad list refused
 HasEnded-bad (Eod ∷ list) refused = tt
 HasEnded-bad (Bad other ∷ list) refused = tt
 
-module _ (bytes stream rest : List ℕ) (all : bytes ≡ stream ++ rest) (good : IsGood bytes) where
+module _ (bytes stream rest : List ℕ) (all : bytes ≡ stream ++ rest) (good : IsGoodInput bytes) where
   abbrev end : ℕ
   end = good.done.whole.0
 
@@ -106,13 +106,13 @@ module _ (bytes stream rest : List ℕ) (all : bytes ≡ stream ++ rest) (good :
   no_refusal outcome.DriveFailed is cause in_time = absurd is
   no_refusal outcome.OutOfMemory is cause in_time = absurd is
 
-refused_by_ranges : (bytes stream : List ℕ) (before after : Option (List ℕ)) (ending : Outcome) → before ≡ Some bytes → IsGood bytes → IsTaken before after stream → IsCause ending stream after → IsRefusal ending → NeedsMoreRanges stream × (ending ≡ outcome.RangesFull MAX_RANGES)
+refused_by_ranges : (bytes stream : List ℕ) (before after : Option (List ℕ)) (ending : Outcome) → before ≡ Some bytes → IsGoodInput bytes → IsTaken before after stream → IsCause ending stream after → IsRefusal ending → NeedsMoreRanges stream × (ending ≡ outcome.RangesFull MAX_RANGES)
 refused_by_ranges bytes stream None after ending is good taken cause refused = absurd (cc)
 refused_by_ranges bytes stream (Some known) None ending is good taken cause refused = absurd taken.consumed
 refused_by_ranges bytes stream (Some known) (Some rest) ending is good taken cause refused = no_refusal bytes stream rest (let same : known ≡ bytes = cc in sym same ∙ taken.consumed) good ending refused cause taken.in_time
 
 -- the one refusal of a good input
-pub fills_ranges : (bytes stream : List ℕ) (before after written put : Option (List ℕ)) (ending : Outcome) → before ≡ Some bytes → IsGood bytes → IsTaken before after stream → IsCause ending stream after → IsRefusal ending → Appends written put (text_of ending) → FillsRanges before after written put
+pub fills_ranges : (bytes stream : List ℕ) (before after written put : Option (List ℕ)) (ending : Outcome) → before ≡ Some bytes → IsGoodInput bytes → IsTaken before after stream → IsCause ending stream after → IsRefusal ending → Appends written put (text_of ending) → FillsRanges before after written put
 fills_ranges bytes stream before after written put ending is good taken cause refused line =
     let full = refused_by_ranges bytes stream before after ending is good taken cause refused in
     record { stream = stream; taken = taken; cause = full.0; line = subst (λ (answer : Outcome). Appends written put (text_of answer)) full.1 line }

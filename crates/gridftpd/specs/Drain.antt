@@ -118,7 +118,7 @@ pub record IsHonest (source : List ℕ) (list : List Arrival) : Type 0 where
   pub whole : 0 < eods list → (x : ℕ) → x < length source → Arrives list x
 
 -- an input that makes a transfer done, with its EOD within fewer than 2^58 bytes
-pub record IsGood (bytes : List ℕ) : Type 0 where
+pub record IsGoodInput (bytes : List ℕ) : Type 0 where
   pub done : Done (events_of (told_by bytes))
   pub soon : (n : ℕ) × (n < MAX_BYTES) × HasEnded (told_by (take n bytes))
 

@@ -4,7 +4,7 @@ ghost use Rattle.gft_drive.specs.Words.{Goes};
 ghost use Rattle.gridftpd.specs.DrainWords.{AreDrainWords, name_in};
 ghost use Rattle.gridftpd.specs.Cause.{IsCause, told_by};
 ghost use Rattle.gridftpd.specs.Drain.{Answers, EndsAs, FaultCounts, FillsRanges, NoneRose, IsPut, IsTold};
-ghost use Rattle.gridftpd.specs.Drain.{DriveIsBlamed, InputIsBlamed, IsFile, IsGood, IsHonest};
+ghost use Rattle.gridftpd.specs.Drain.{DriveIsBlamed, InputIsBlamed, IsFile, IsGoodInput, IsHonest};
 ghost use Rattle.gridftpd.specs.Images.{FindsDamage, HoldsAtEnd, IsStored, OfEach};
 ghost use Rattle.gridftpd.specs.Turn.{outcome_of};
 ghost use Rattle.gridftpd.specs.Drain.{IsTaken};
@@ -82,7 +82,7 @@ pub fn drain<I: Source, W: Sink, D: Drive + Drop, O: Origin>(
     // A good input is stored where no fault was counted and the journal isn't damaged, unless memory was
     // refused or the ranges were full.
     ensures certain { AreDrainWords words.now
-        → (bytes : List ℕ) → I.left input.old ≡ Some bytes → IsGood bytes
+        → (bytes : List ℕ) → I.left input.old ≡ Some bytes → IsGoodInput bytes
         → IsSomeAnd result.1 (λ back. NoneRose
         (record { input = I.faults input.old; output = W.faults out.old; drive = (D.state drive).faults })
         (record { input = I.faults input.new; output = W.faults out.new; drive = (D.state back).faults }))

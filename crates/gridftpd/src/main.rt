@@ -1,5 +1,8 @@
 //! `gridftpd drain NAME` stores one recorded data connection, read from standard input, as the file
 //! NAME in the current folder, and prints one line.
+//!
+//! Beside NAME it keeps the journal `NAME.gfr`, which says what of NAME is stored. Delete the two together;
+//! a journal whose data is gone, or that is damaged, is refused with status 7 until it is deleted.
 #![tactic(auto)]
 
 ghost use Rattle.std.specs.Prelude.{◌≡◌, IfOk, string_bytes};
