@@ -112,8 +112,8 @@ pub record EndsBad (stream : List ℕ) (refused : Refusal) : Type 0 where
   pub agreed : AreAgreed (totals (told_by stream))
   pub few : HasRangesAtMost MAX_RANGES (told_by stream)
 
--- what an outcome says of the bytes that were taken, and of those that are left: it is met, and nothing that is
--- answered before it is; a fault, want of memory and a damage are met by no byte
+-- what an outcome says of the bytes that were taken, and of those that are left: it is met, and nothing that
+-- is answered before it is; a fault, want of memory and a damage are met by no byte
 abbrev pub IsCause : Outcome → List ℕ → Option (List ℕ) → Type 0
 IsCause outcome.Complete stream left = MeetsNone stream × Done (events_of (told_by stream))
 IsCause (outcome.Lost taken) stream left = MeetsNone stream × IsLost stream left taken

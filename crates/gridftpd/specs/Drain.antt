@@ -18,8 +18,8 @@ use Rattle.gridftpd.specs.declared.outcome.Outcome.TheVariants as outcome
 use Rattle.gridftpd.specs.declared.status.Status.{Status}
 use Rattle.gridftpd.specs.declared.status.Status.TheVariants as status
 
--- these bytes were taken of the input, at most 2^58, and none of their shorter fronts has what ends an intake:
--- what follows is unread
+-- these bytes were taken of the input, at most 2^58, and none of their shorter fronts has what ends an
+-- intake: what follows is unread
 pub record IsTaken (before after : Option (List ℕ)) (stream : List ℕ) : Type 0 where
   pub consumed : Consumes before after stream
   pub few : length stream ≤ MAX_BYTES
@@ -122,8 +122,8 @@ pub record IsGoodInput (bytes : List ℕ) : Type 0 where
   pub done : Done (events_of (told_by bytes))
   pub soon : (n : ℕ) × (n < MAX_BYTES) × HasEnded (told_by (take n bytes))
 
--- how right words end: by the first cause that is met, with its line; what follows is unread, and whatever the
--- cause, what is kept is held by what a read gives and by each image that a crash may leave
+-- how right words end: by the first cause that is met, with its line; what follows is unread, and whatever
+-- the cause, what is kept is held by what a read gives and by each image that a crash may leave
 pub record EndsAs (number : ℕ) (before after : Option (List ℕ)) (written put : Option (List ℕ))
     (faults risen : ℕ) (old new : DriveState) : Type 0 where
   pub ending : Outcome

@@ -51,8 +51,8 @@ HoldsTaken outcome.DriveFailed stream new = HoldsAllButLast stream new
 HoldsTaken outcome.OutOfMemory stream new = HoldsAllButLast stream new
 HoldsTaken other stream new = OfEach new (HoldsArrived stream stream)
 
--- what is held at the end: a drive that is damaged, or refused before it was emptied, has its images of before,
--- and one that failed to be emptied those or none of their ranges
+-- what is held at the end: a drive that is damaged, or refused before it was emptied, has its images of
+-- before, and one that failed to be emptied those or none of their ranges
 abbrev pub HoldsAtEnd : Outcome → List ℕ → DriveState → DriveState → Type 0
 HoldsAtEnd outcome.Damaged stream old new = LeavesBy (λ from image. image ≡ from) old new
 HoldsAtEnd outcome.DriveFailed stream old new = LeavesBy Empties old new ⊎ HoldsAllButLast stream new
@@ -60,7 +60,8 @@ HoldsAtEnd outcome.OutOfMemory stream old new =
     LeavesBy (λ from image. image ≡ from) old new ⊎ HoldsAllButLast stream new
 HoldsAtEnd other stream old new = HoldsTaken other stream new
 
--- whether what a read gives at first is damaged: so it is where that is answered, and isn't where the drive is read
+-- whether what a read gives at first is damaged: so it is where that is answered, and isn't where the drive
+-- is read
 abbrev pub FindsDamage : Outcome → DriveState → Type 0
 FindsDamage outcome.Damaged old = (read : Image) → old.contents ≡ Some read
     → (¬ IsSound read) × ((damage : Damage) × IsDamagedBy damage read)

@@ -3,7 +3,8 @@
 ghost use Rattle.std.specs.Prelude.{◌≡◌, IfOk, Some, string_bytes};
 ghost use Rattle.gridftpd.specs.Line.{usage_text, complete_text, lost_text, hole_text, bad_block_text};
 ghost use Rattle.gridftpd.specs.Line.{count_refused_text, too_long_text, ranges_full_text, read_failed_text};
-ghost use Rattle.gridftpd.specs.Line.{damaged_text, drive_failed_text, out_of_memory_text, number_text, range_text};
+ghost use Rattle.gridftpd.specs.Line.{damaged_text, drive_failed_text, out_of_memory_text, number_text};
+ghost use Rattle.gridftpd.specs.Line.{range_text};
 
 use gft_eblock::BadBlock;
 use gft_eod::EodError;
