@@ -19,7 +19,7 @@ use Rattle.gft_layout.specs.declared.Layout.TheVariants as layouts
 use Rattle.gft_opts.specs.Words.{FitsLayout, FitsParallel, FitsRetr, layout_settings, parallel_settings, retr_text, settings_text, IsTargets}
 use Rattle.gft_opts.specs.declared.RetrOptions.{RetrOptions}
 use Rattle.gft_opts.specs.declared.TheConstants.{MAX_PARALLEL}
-use Rattle.gft_command.specs.Parameters.{IsShort, options_text}
+use Rattle.gft_command.specs.Parameters.{FitsALine, options_text}
 use Rattle.gft_command.proofs.TelnetLemmas.{doubled-plain}
 
 -- a space, or a byte of ASCII that is seen
@@ -40,7 +40,7 @@ pub record IsBrief (text : List ℕ) (most : ℕ) : Type 0 where
   pub printed : IsPrinted text
   pub len : length text ≤ most
 
-pub brief_short : (text : List ℕ) (most : ℕ) → IsBrief text most → most ≤ 30000 → IsShort text
+pub brief_short : (text : List ℕ) (most : ℕ) → IsBrief text most → most ≤ 30000 → FitsALine text
 brief_short text most brief few =
     let same = doubled-plain text (printed_apart 255 text refl brief.printed) in
     (printed_apart 10 text refl brief.printed, omega (arith, ap length same, brief.len))

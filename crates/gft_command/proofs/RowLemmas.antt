@@ -15,7 +15,7 @@ use Rattle.gft_text.specs.Words.{Line, folded, told}
 use Rattle.gft_text.specs.declared.TheConstants.{LINE_LIMIT}
 use Rattle.gft_text.proofs.Lemmas.{told-line, without_return}
 use Rattle.gft_command.specs.Commands.{SaysCommand, parameter_in, verb_in}
-use Rattle.gft_command.specs.Parameters.{FitsBytes, FitsParameter, IsCapital, IsParameter, IsShort, Parameter, behind_verb, options_text, parameter_text}
+use Rattle.gft_command.specs.Parameters.{FitsBytes, FitsParameter, IsCapital, IsParameter, FitsALine, Parameter, behind_verb, options_text, parameter_text}
 use Rattle.gft_command.specs.Parameters.{Nothing, Text, Letter, Number, LeadingNumber, Options, Address, Targets, Ranges, Part, Place}
 use Rattle.gft_command.specs.Table.{is_verb, row, row_of}
 use Rattle.gft_command.specs.Telnet.{doubled, past_signals, telnet_escape, telnet_text, undoubled}
@@ -77,10 +77,10 @@ doubled_lacks (b ∷ bs) lacks = first (eqb b 255) (lacks zero b (omega arith)) 
   first true here rest = All-cons (λ x. eqb x 10 ≡ false) b (b ∷ doubled bs) here (All-cons (λ x. eqb x 10 ≡ false) b (doubled bs) here rest)
   first false here rest = All-cons (λ x. eqb x 10 ≡ false) b (doubled bs) here rest
 
-short_fits : (verb text : List ℕ) → IsVerb verb → IsShort text → FitsBytes verb text
+short_fits : (verb text : List ℕ) → IsVerb verb → FitsALine text → FitsBytes verb text
 short_fits verb text is short = (short.0, omega (arith, short.1, verb_short verb is))
 
-capital_short : (letter : ℕ) → IsCapital letter → IsShort (letter ∷ [])
+capital_short : (letter : ℕ) → IsCapital letter → FitsALine (letter ∷ [])
 capital_short letter capital =
     let P : ℕ → ℕ → Type 0 = λ c x. eqb x c ≡ false in
     let plain = All-cons (P 255) letter [] (ne_eqb letter 255 (λ same. omega (arith, same, capital.1))) (All-nil (P 255)) in

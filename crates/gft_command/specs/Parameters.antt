@@ -147,8 +147,8 @@ FitsBehind verb front bytes =
     Lacks line_feed bytes × (length verb + front + length (doubled bytes) + 2 < LINE_LIMIT)
 
 -- a text without an LF that is far from too long
-abbrev pub IsShort : List ℕ → Type 0
-IsShort text = Lacks line_feed text × (length (doubled text) ≤ 30000)
+abbrev pub FitsALine : List ℕ → Type 0
+FitsALine text = Lacks line_feed text × (length (doubled text) ≤ 30000)
 
 -- the value is in the grammar of its form
 abbrev pub FitsForm : Parameter → Type 0

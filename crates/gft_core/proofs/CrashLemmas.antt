@@ -93,7 +93,7 @@ marks newer older ranges mark same legal x h =
       images = λ image later. image_holds image (newer ++ Mark ∷ older) later x byte.0 (kept_on newer (Mark ∷ older) same legal x byte.0 first);
     }
 
-leaves_nothing : (events : List CoreEvent) (list : _) → Rattle.gft_core.specs.Legal.Leaves events (Rattle.gft_core.specs.declared.event.CoreEvent.TheVariants.Resume list)
+leaves_nothing : (events : List CoreEvent) (list : _) → Rattle.gft_core.specs.Legal.LeavesImage events (Rattle.gft_core.specs.declared.event.CoreEvent.TheVariants.Resume list)
 leaves_nothing [] list = tt
 leaves_nothing (e ∷ older) list = tt
 

@@ -14,21 +14,21 @@ use Rattle.gft_core.specs.declared.event.CoreEvent.TheVariants.{Block, Eod, Eof,
 use Rattle.gft_core.specs.declared.progress.Progress.{Progress}
 use Rattle.gft_core.specs.declared.progress.Progress.TheVariants.{Idle, Counting, Failed}
 use Rattle.gft_core.specs.Kept.{first_some, Booked}
-use Rattle.gft_core.specs.Done.{since, total, AllPass, Done}
-use Rattle.gft_core.specs.Progress.{IsUnbroken, CountsTransfer, Tells, IsSoundProgress, HasMet}
+use Rattle.gft_core.specs.Done.{since, total, AllPermit, Done}
+use Rattle.gft_core.specs.Progress.{IsInProgress, CountsTransfer, Tells, IsSoundProgress, HasMet}
 use Rattle.gft_core.proofs.OptionLemmas.{first_some-none, first_some_either}
 
 -- ---- what the events of a transfer say
 
 -- where all pass, the first total is the one
-pub total_is : (transfer : List CoreEvent) (n k : ℕ) → AllPass n transfer → total transfer ≡ Some k → k ≡ n
+pub total_is : (transfer : List CoreEvent) (n k : ℕ) → AllPermit n transfer → total transfer ≡ Some k → k ≡ n
 total_is [] n k pass t = absurd (none-some k t)
 total_is (Eof new ∷ older) n k pass t =
     ⊎_elim (λ p. total_is older n k pass.0 p) (λ (p : Some new ≡ Some k). sym (same_Some new k p) ∙ pass.1) (first_some_either (total older) (Some new) k t)
 total_is (e ∷ older) n k pass t = total_is older n k pass.0 (sym (first_some-none (total older)) ∙ t)
 
 -- a broken transfer stays broken
-pub broken_stays : (transfer : List CoreEvent) (e : CoreEvent) → ((n : ℕ) → ¬ IsUnbroken transfer n) → (n : ℕ) → ¬ IsUnbroken (e ∷ transfer) n
+pub broken_stays : (transfer : List CoreEvent) (e : CoreEvent) → ((n : ℕ) → ¬ IsInProgress transfer n) → (n : ℕ) → ¬ IsInProgress (e ∷ transfer) n
 broken_stays transfer e broken n unbroken =
     broken n (record { in_bounds = unbroken.in_bounds; at_most = omega (arith, unbroken.at_most); passes = unbroken.passes.0 })
 
@@ -78,10 +78,10 @@ eod_fits None taken n most is below = ap (λ (c : Bool). if c then Some (TooMany
 eod_fits (Some k) taken n most is below =
     let k_is = is k refl in ap (λ (c : Bool). if c then Some (TooManyEods k) else None) (lt-leb k taken (omega arith))
 
-known_is : (transfer : List CoreEvent) (count : Count) (n : ℕ) → CountsTransfer transfer count → AllPass n transfer → (k : ℕ) → count.total ≡ Some k → k ≡ n
+known_is : (transfer : List CoreEvent) (count : Count) (n : ℕ) → CountsTransfer transfer count → AllPermit n transfer → (k : ℕ) → count.total ≡ Some k → k ≡ n
 known_is transfer count n c pass k e = total_is transfer n k pass (c.total ∙ e)
 
-pub broken-eod : (lane : ℕ) (transfer : List CoreEvent) (count : Count) (error : EodError) → eod_refusal count ≡ Some error → CountsTransfer transfer count → (n : ℕ) → ¬ IsUnbroken (Eod lane ∷ transfer) n
+pub broken-eod : (lane : ℕ) (transfer : List CoreEvent) (count : Count) (error : EodError) → eod_refusal count ≡ Some error → CountsTransfer transfer count → (n : ℕ) → ¬ IsInProgress (Eod lane ∷ transfer) n
 broken-eod lane transfer count error refused c n unbroken =
     none-some error
     (sym (eod_fits count.total count.eods n unbroken.in_bounds.1 (known_is transfer count n c unbroken.passes.0) (omega (arith, c.eods, unbroken.at_most))) ∙ refused)
@@ -113,7 +113,7 @@ eof_fits count new some most is le =
     ∙ ap (λ (c : Bool). if c then Some (BadTotal new) else totals_refusal count.total count.eods new) (le-ltb MAX_EODS new most)
     ∙ totals_fit count.total count.eods new is le
 
-pub broken-eof : (new : ℕ) (transfer : List CoreEvent) (count : Count) (error : EodError) → eof_refusal count new ≡ Some error → CountsTransfer transfer count → (n : ℕ) → ¬ IsUnbroken (Eof new ∷ transfer) n
+pub broken-eof : (new : ℕ) (transfer : List CoreEvent) (count : Count) (error : EodError) → eof_refusal count new ≡ Some error → CountsTransfer transfer count → (n : ℕ) → ¬ IsInProgress (Eof new ∷ transfer) n
 broken-eof new transfer count error refused c n unbroken =
     let is_n : new ≡ n = unbroken.passes.1 in
     none-some error

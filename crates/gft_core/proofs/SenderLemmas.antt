@@ -13,7 +13,8 @@ use Rattle.gft_core.specs.Held.{covers}
 use Rattle.gft_core.specs.Kept.{first_some, byte_at, carried, answered, earliest, kept, Booked}
 use Rattle.gft_core.specs.Legal.{is_open, Legal}
 use Rattle.gft_core.specs.Done.{since, total, eod_count}
-use Rattle.gft_core.specs.Sender.{AllBring, Brings, CarriesSource, IsAmong, IsInOrder, Plan, lane_eods, lane_offsets, list_of, offsets_from, stor_list, sum_below}
+use Rattle.gft_core.specs.Sender.{AllBring, Brings, CarriesSource, IsInOrder, lane_eods, lane_offsets, list_of, stor_list}
+use Rattle.gft_drive.specs.Words.{IsAmong, IsPlan, Orders, offsets_from, sum_below}
 use Rattle.gft_core.specs.Laws.{DoneLaw}
 use Rattle.gft_core.proofs.CrashLemmas.{shut}
 use Rattle.gft_core.proofs.HonestLemmas.{below_length}
@@ -105,16 +106,16 @@ resumed (e ∷ older) list legal is x h = more older e x (resumed older list leg
 
 -- ---- one transfer
 
-module _ {source : List ℕ} {rest : List Range} (plan : Plan source rest) where
+module _ {source : List ℕ} {rest : List Range} (orders : Orders) (plan : IsPlan source rest orders) where
   -- what came on a lane begins its order
-  prefix : (transfer : List CoreEvent) → IsInOrder plan transfer → (k : ℕ) → (left : List ℕ) × (lane_offsets k transfer ++ left ≡ plan.order k)
-  prefix [] h k = (plan.order k, refl)
+  prefix : (transfer : List CoreEvent) → IsInOrder orders transfer → (k : ℕ) → (left : List ℕ) × (lane_offsets k transfer ++ left ≡ orders.order k)
+  prefix [] h k = (orders.order k, refl)
   prefix (Block lane channel offset bytes unanswered ∷ earlier) h k =
       dite (ℕ_discrete lane k)
       (λ e. (
         h.1.0,
         ap (λ (b : Bool). (lane_offsets k earlier ++ (if b then offsets_from offset bytes else [])) ++ h.1.0) (eq-eqb lane k e)
-            ∙ subst (λ (l : ℕ). (lane_offsets l earlier ++ offsets_from offset bytes) ++ h.1.0 ≡ plan.order l) e h.1.1,
+            ∙ subst (λ (l : ℕ). (lane_offsets l earlier ++ offsets_from offset bytes) ++ h.1.0 ≡ orders.order l) e h.1.1,
       ))
       (λ ne. let p = prefix earlier h.0 k in
       (p.0, ap (λ (b : Bool). (lane_offsets k earlier ++ (if b then offsets_from offset bytes else [])) ++ p.0) (ne_eqb lane k ne) ∙ ap (λ l. l ++ p.0) (append-nil (lane_offsets k earlier)) ∙ p.1))
@@ -122,12 +123,12 @@ module _ {source : List ℕ} {rest : List Range} (plan : Plan source rest) where
 
   -- a lane has at most its number of EODs, and once it has them its whole order is booked
   abbrev Told : List CoreEvent → ℕ → Type 0
-  Told events k = (lane_eods k (since events) ≤ plan.number k) × (lane_eods k (since events) ≡ plan.number k → (x : ℕ) → IsAmong x (plan.order k) → Booked events x)
+  Told events k = (lane_eods k (since events) ≤ orders.number k) × (lane_eods k (since events) ≡ orders.number k → (x : ℕ) → IsAmong x (orders.order k) → Booked events x)
 
-  at_first : (k : ℕ) (F : ℕ → Type 0) → (0 ≤ plan.number k) × (0 ≡ plan.number k → (x : ℕ) → IsAmong x (plan.order k) → F x)
+  at_first : (k : ℕ) (F : ℕ → Type 0) → (0 ≤ orders.number k) × (0 ≡ orders.number k → (x : ℕ) → IsAmong x (orders.order k) → F x)
   at_first k F = (omega arith, λ e x h. absurd (subst (IsAmong x) (plan.silent k (sym e)) h))
 
-  told : (events : List CoreEvent) → Legal events → IsInOrder plan (since events) → (k : ℕ) → Told events k
+  told : (events : List CoreEvent) → Legal events → IsInOrder orders (since events) → (k : ℕ) → Told events k
   told [] legal h k = at_first k (Booked [])
   told (Fresh ∷ older) legal h k = at_first k (Booked (Fresh ∷ older))
   told (Resume list ∷ older) legal h k = at_first k (Booked (Resume list ∷ older))
@@ -137,7 +138,7 @@ module _ {source : List ℕ} {rest : List Range} (plan : Plan source rest) where
       dite (ℕ_discrete lane k)
       (λ e.
       let one = one_here lane k e in
-      let order = subst (λ (l : ℕ). (lane_eods l (since older) < plan.number l) × (lane_eods l (since older) + 1 ≡ plan.number l → lane_offsets l (since older) ≡ plan.order l)) e h.1 in (
+      let order = subst (λ (l : ℕ). (lane_eods l (since older) < orders.number l) × (lane_eods l (since older) + 1 ≡ orders.number l → lane_offsets l (since older) ≡ orders.order l)) e h.1 in (
         omega (arith, one, order.0),
         λ all x i. more older (Eod lane) x (came_booked older (shut (is_open older) false legal.1 refl) k x (subst (IsAmong x) (sym (order.1 (omega (arith, one, all)))) i)),
       ))
@@ -149,15 +150,15 @@ module _ {source : List ℕ} {rest : List Range} (plan : Plan source rest) where
       (omega (arith, before.0), λ all x i. more older e x (before.1 (omega (arith, all)) x i))
 
   -- the EODs are those of all lanes
-  counted : (transfer : List CoreEvent) → IsInOrder plan transfer → eod_count transfer ≡ sum_below (λ k. lane_eods k transfer) plan.lanes
-  counted [] h = sym (sum_none plan.lanes)
+  counted : (transfer : List CoreEvent) → IsInOrder orders transfer → eod_count transfer ≡ sum_below (λ k. lane_eods k transfer) orders.lanes
+  counted [] h = sym (sum_none orders.lanes)
   counted (Eod lane ∷ older) h =
-      let some_lane : lane < plan.lanes = dite (dec_le plan.lanes lane) (λ le. absurd (omega (arith, plan.no_more lane le, h.1.0))) (λ no. lt_of_not-le no) in
-      omega (arith, counted older h.0, sum_one (λ k. lane_eods k older) lane plan.lanes some_lane)
-  counted (e ∷ older) h = omega (arith, counted older h.0, sum_same (λ k. lane_eods k older + 0) (λ k. lane_eods k older) plan.lanes (λ k _. omega arith))
+      let some_lane : lane < orders.lanes = dite (dec_le orders.lanes lane) (λ le. absurd (omega (arith, plan.no_more lane le, h.1.0))) (λ no. lt_of_not-le no) in
+      omega (arith, counted older h.0, sum_one (λ k. lane_eods k older) lane orders.lanes some_lane)
+  counted (e ∷ older) h = omega (arith, counted older h.0, sum_same (λ k. lane_eods k older + 0) (λ k. lane_eods k older) orders.lanes (λ k _. omega arith))
 
   -- the total is the plan's
-  totals : (transfer : List CoreEvent) → IsInOrder plan transfer → (t : ℕ) → total transfer ≡ Some t → t ≡ sum_below plan.number plan.lanes
+  totals : (transfer : List CoreEvent) → IsInOrder orders transfer → (t : ℕ) → total transfer ≡ Some t → t ≡ sum_below orders.number orders.lanes
   totals [] h t e = absurd (none-some t e)
   totals (Eof n ∷ older) h t e =
       ⊎_elim (λ p. totals older h.0 t p) (λ (p : Some n ≡ Some t). sym (same_Some n t p) ∙ h.1) (first_some_either (total older) (Some n) t e)
@@ -165,13 +166,14 @@ module _ {source : List ℕ} {rest : List Range} (plan : Plan source rest) where
 
 pub done_kept : DoneLaw
 done_kept source events legal stor done x =
+    let orders = stor.orders in
     let plan = stor.plan in
-    let all = told plan events legal stor.in_order in
-    let sums = sym (counted plan (since events) stor.in_order) ∙ done.met ∙ totals plan (since events) stor.in_order done.number done.total in
-    let each = squeeze (λ k. lane_eods k (since events)) plan.number plan.lanes (λ k _. (all k).0) sums in
+    let all = told orders plan events legal stor.in_order in
+    let sums = sym (counted orders plan (since events) stor.in_order) ∙ done.met ∙ totals orders plan (since events) stor.in_order done.number done.total in
+    let each = squeeze (λ k. lane_eods k (since events)) orders.number orders.lanes (λ k _. (all k).0) sums in
     same_options (kept events x) (slice_get source x)
     (λ v k. kept_brought source events stor.bring x v k)
     (λ v at. ⊎_elim
     (λ h. resumed events stor.list legal stor.stor x h)
-    (λ (p : (lane : ℕ) × (lane < plan.lanes) × IsAmong x (plan.order lane)). (all p.0).1 (each p.0 p.1) x p.2)
+    (λ (p : (lane : ℕ) × (lane < orders.lanes) × IsAmong x (orders.order lane)). (all p.0).1 (each p.0 p.1) x p.2)
     (plan.all x (below_length source x v at)))

@@ -3,7 +3,7 @@ use Rattle.std.proofs.Common.{◌≡◌, ◌≢◌, ℕ, zero, suc, ◌+◌, ◌
 use Rattle.std.specs.Prelude.{if◌then◌else◌}
 use mathlib.Core.Logic.{dite}
 use native.Mathlib.Decide.{ℕ_discrete}
-use Rattle.gft_core.specs.Sender.{sum_below}
+use Rattle.gft_drive.specs.Words.{sum_below}
 
 abbrev pub one_at : ℕ → ℕ → ℕ
 one_at l k = if l == k then 1 else 0

@@ -44,17 +44,17 @@ eod_count [] = 0
 eod_count (e ∷ older) = eod_count older + eods_in e
 
 -- an event that does not fail a transfer with n EODs: each Eof says n
-abbrev pub Passes : ℕ → CoreEvent → Type 0
-Passes n (Eof total) = total ≡ n
-Passes n Lost = ⊥
-Passes n Fault = ⊥
-Passes n Abort = ⊥
-Passes n (Crash image) = ⊥
-Passes n e = Unit {0}
+abbrev pub Permits : ℕ → CoreEvent → Type 0
+Permits n (Eof total) = total ≡ n
+Permits n Lost = ⊥
+Permits n Fault = ⊥
+Permits n Abort = ⊥
+Permits n (Crash image) = ⊥
+Permits n e = Unit {0}
 
-abbrev pub AllPass : ℕ → List CoreEvent → Type 0
-AllPass n [] = Unit {0}
-AllPass n (e ∷ older) = AllPass n older × Passes n e
+abbrev pub AllPermit : ℕ → List CoreEvent → Type 0
+AllPermit n [] = Unit {0}
+AllPermit n (e ∷ older) = AllPermit n older × Permits n e
 
 -- the last transfer is done: it announced a total and has as many Eods, nothing failed it, and what is
 -- booked has no hole
@@ -64,5 +64,5 @@ pub record Done (events : List CoreEvent) : Type 0 where
   pub total : total (since events) ≡ Some number
   pub in_bounds : (1 ≤ number) × (number ≤ MAX_EODS)
   pub met : eod_count (since events) ≡ number
-  pub passes : AllPass number (since events)
+  pub passes : AllPermit number (since events)
   pub whole : (end : ℕ) × ((x : ℕ) → Booked events x ↔ (x < end))

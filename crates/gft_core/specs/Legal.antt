@@ -30,10 +30,10 @@ pub record GoesOn (older : List CoreEvent) (image : Image) : Type 0 where
       → (v : ℕ) × (pending older x ≡ Some v) × (held image x ≡ Some v)
 
 -- a Crash that begins a list may have any image
-abbrev pub Leaves : List CoreEvent → CoreEvent → Type 0
-Leaves [] e = Unit {0}
-Leaves older (Crash image) = GoesOn older image
-Leaves older e = Unit {0}
+abbrev pub LeavesImage : List CoreEvent → CoreEvent → Type 0
+LeavesImage [] e = Unit {0}
+LeavesImage older (Crash image) = GoesOn older image
+LeavesImage older e = Unit {0}
 
 -- each offset of a Resume's list was booked just before it
 abbrev pub Resumes : List CoreEvent → CoreEvent → Type 0
@@ -44,4 +44,4 @@ Resumes older e = Unit {0}
 abbrev pub Legal : List CoreEvent → Type 0
 Legal [] = Unit {0}
 Legal (e ∷ older) =
-    Legal older × (is_open older ≡ true → may_wait e ≡ true) × Leaves older e × Resumes older e
+    Legal older × (is_open older ≡ true → may_wait e ≡ true) × LeavesImage older e × Resumes older e

@@ -8,6 +8,7 @@ use Rattle.gft_core.specs.declared.event.CoreEvent.TheVariants.{Block, Eod, Eof,
 use Rattle.gft_core.specs.Done.{since}
 use Rattle.gft_core.specs.Held.{held}
 use Rattle.gft_core.specs.Kept.{byte_at}
+use Rattle.gft_drive.specs.Words.{IsPlan, Orders, offsets_from, total_of}
 
 -- ---- the source's bytes
 
@@ -32,31 +33,6 @@ AllBring source (e ∷ older) = AllBring source older × Brings source older e
 
 -- ---- the orders of one transfer
 
-abbrev pub IsAmong : ℕ → List ℕ → Type 0
-IsAmong x [] = ⊥
-IsAmong x (y ∷ ys) = (x ≡ y) ⊎ IsAmong x ys
-
--- the sum of f over the lanes below n
-abbrev pub sum_below : (ℕ → ℕ) → ℕ → ℕ
-sum_below f zero = 0
-sum_below f (suc n) = sum_below f n + f n
-
--- what the lanes of one transfer send of a source: each the offsets of its order, one after another, and a
--- number of EODs. The offsets of a REST list need not be sent
-pub record Plan (source : List ℕ) (rest : List Range) : Type 0 where
-  pub lanes : ℕ
-  pub order : ℕ → List ℕ
-  pub number : ℕ → ℕ
-  pub silent : (lane : ℕ) → number lane ≡ 0 → order lane ≡ []
-  pub no_more : (lane : ℕ) → lanes ≤ lane → number lane ≡ 0
-  pub all : (x : ℕ) → x < length source
-      → HasOffset rest x ⊎ ((lane : ℕ) × (lane < lanes) × IsAmong x (order lane))
-
--- the offsets of bytes that lie at this offset and onwards
-abbrev pub offsets_from : ℕ → List ℕ → List ℕ
-offsets_from offset [] = []
-offsets_from offset (b ∷ bs) = offset ∷ offsets_from (offset + 1) bs
-
 -- the offsets that an event brings on a lane, and the EODs there
 abbrev pub offsets_on : ℕ → CoreEvent → List ℕ
 offsets_on k (Block lane channel offset bytes unanswered) =
@@ -78,16 +54,16 @@ abbrev pub lane_eods : ℕ → List CoreEvent → ℕ
 lane_eods k [] = 0
 lane_eods k (e ∷ older) = lane_eods k older + eods_on k e
 
-module _ {source : List ℕ} {rest : List Range} (plan : Plan source rest) where
+module _ (orders : Orders) where
   -- an event behind the earlier ones of its transfer: a block goes on in its lane's order; an EOD is one of
   -- the lane's number, the last only behind the whole order; an EOF tells the sum of all numbers
   abbrev pub FollowsPlan : List CoreEvent → CoreEvent → Type 0
   FollowsPlan earlier (Block lane channel offset bytes unanswered) =
-      (left : List ℕ) × ((lane_offsets lane earlier ++ offsets_from offset bytes) ++ left ≡ plan.order lane)
+      (left : List ℕ) × ((lane_offsets lane earlier ++ offsets_from offset bytes) ++ left ≡ orders.order lane)
   FollowsPlan earlier (Eod lane) =
-      (lane_eods lane earlier < plan.number lane)
-      × (lane_eods lane earlier + 1 ≡ plan.number lane → lane_offsets lane earlier ≡ plan.order lane)
-  FollowsPlan earlier (Eof total) = total ≡ sum_below plan.number plan.lanes
+      (lane_eods lane earlier < orders.number lane)
+      × (lane_eods lane earlier + 1 ≡ orders.number lane → lane_offsets lane earlier ≡ orders.order lane)
+  FollowsPlan earlier (Eof total) = total ≡ total_of orders
   FollowsPlan earlier (Crash image) = Unit {0}
   FollowsPlan earlier e = Unit {0}
 
@@ -117,5 +93,6 @@ pub record IsHonestStor (source : List ℕ) (events : List CoreEvent) : Type 0 w
   pub bring : AllBring source events
   pub list : List Range
   pub stor : stor_list events ≡ Some list
-  pub plan : Plan source list
-  pub in_order : IsInOrder plan (since events)
+  pub orders : Orders
+  pub plan : IsPlan source list orders
+  pub in_order : IsInOrder orders (since events)

@@ -214,9 +214,9 @@ fn a_crash_decides_on_open_blocks(rt: HostRuntime) -> Result<(), Fail> {
 }
 
 #[test]
-fn a_restart_behind_a_crash(rt: HostRuntime) -> Result<(), Fail> {
-    use Told::{CrashBare, CrashFive, Eod, Eof, Fresh, Hello, Mark, OpenHello, Resume, World};
-    let rows: [Row; 7] = [
+fn one_crash_behind_another(rt: HostRuntime) -> Result<(), Fail> {
+    use Told::{CrashBare, CrashFive, Eod, Eof, Fresh, Hello, OpenHello};
+    let rows: [Row; 4] = [
         (&[CrashFive(b"hello"), CrashFive(b"hello")], FIRST, H, false),
         (
             &[Fresh, OpenHello, CrashBare(b""), CrashBare(b"")],
@@ -236,46 +236,31 @@ fn a_restart_behind_a_crash(rt: HostRuntime) -> Result<(), Fail> {
             H,
             false,
         ),
+    ];
+    check(&rt, rt.alloc(), &rows)
+}
+
+/// A crash that leaves the first five offsets with these bytes.
+const CRASH: Told = Told::CrashFive(b"hello");
+
+#[test]
+fn a_restart_behind_a_crash(rt: HostRuntime) -> Result<(), Fail> {
+    use Told::{Eod, Eof, Fresh, Hello, Mark, Resume, World};
+    let rows: [Row; 3] = [
         (
-            &[
-                Fresh,
-                Hello,
-                Resume,
-                CrashFive(b"hello"),
-                World,
-                Eof(1),
-                Eod,
-            ],
+            &[Fresh, Hello, Resume, CRASH, World, Eof(1), Eod],
             BOTH,
             H,
             false,
         ),
         (
-            &[
-                Fresh,
-                Hello,
-                Resume,
-                CrashFive(b"hello"),
-                Resume,
-                World,
-                Eof(1),
-                Eod,
-            ],
+            &[Fresh, Hello, Resume, CRASH, Resume, World, Eof(1), Eod],
             BOTH,
             H,
             true,
         ),
         (
-            &[
-                Fresh,
-                Hello,
-                Mark,
-                CrashFive(b"hello"),
-                Resume,
-                World,
-                Eof(1),
-                Eod,
-            ],
+            &[Fresh, Hello, Mark, CRASH, Resume, World, Eof(1), Eod],
             BOTH,
             H,
             true,

@@ -6,6 +6,7 @@ mod Known
 mod Looking
 mod Reading
 mod Run
+mod Sending
 mod Slots
 mod Steps
 mod Written

@@ -2,6 +2,7 @@ pub mod Drive
 pub mod File
 pub mod Layout
 pub mod Memory
+pub mod Origin
 pub mod Ranges
 pub mod Replay
 pub mod Replaying

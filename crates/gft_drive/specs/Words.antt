@@ -9,3 +9,5 @@ unfoldable pub use Rattle.gft_drive.specs.Layout.{number_at}
 pub use Rattle.gft_drive.specs.Ranges.{Covers, Has, IsBorn, IsComplete, IsFit, IsIntact, IsOpenAs, LastEndsAt}
 pub use Rattle.gft_drive.specs.Ranges.{Names}
 pub use Rattle.gft_drive.specs.Ranges.{complete_kind, layout_at, range_kind, selected, slot}
+pub use Rattle.gft_drive.specs.Origin.{AreFit, IsAmong, IsPlan, IsSending, Orders, Sent, no_orders, offsets_from, one_lane}
+pub use Rattle.gft_drive.specs.Origin.{sent_by, sent_if, sum_below, total_of}

@@ -1,5 +1,6 @@
 -- What a channel does with a piece of its stream.
-use Rattle.std.specs.Prelude.{◌≡◌, ℕ, ◌+◌, ◌<◌, ◌≤◌, ◌⊎◌, List, [], ◌∷◌, ◌++◌, length, take, Option, Some, None}
+use Rattle.std.specs.Prelude.{◌≡◌, ℕ, ◌+◌, ◌<◌, ◌≤◌, ◌⊎◌, List, [], ◌∷◌, ◌++◌, length, take}
+use Rattle.std.specs.Prelude.{Option, Some, None}
 use Rattle.gft_base.specs.declared.TheConstants.{LIMIT}
 use Rattle.gft_eblock.specs.declared.TheConstants.{HEADER_LEN}
 use Rattle.gft_eblock.specs.Arrival.{Arrival, Eof, Eod, Bad}
@@ -20,18 +21,18 @@ event_arrivals (Some (event.Eof total)) = Eof total ∷ []
 event_arrivals (Some event.Eod) = Eod ∷ []
 
 -- more may come: the EOD was not told, and no block was refused
-abbrev pub IsOpen : State → Type 0
-IsOpen Done = ⊥
-IsOpen (Failed bad) = ⊥
-IsOpen _ = Unit {0}
+abbrev pub TakesMore : State → Type 0
+TakesMore Done = ⊥
+TakesMore (Failed bad) = ⊥
+TakesMore _ = Unit {0}
 
 -- the event's shape, and the channel behind it: without an event it wants a byte, and behind an EOD it is
 -- done
 abbrev pub IsEventOf : Option Event → State → List ℕ → Type 0
 IsEventOf None state header = 0 < wanted_in state header
 IsEventOf (Some (event.Piece offset bytes)) state header =
-    (0 < length bytes.now) × (offset + length bytes.now ≤ LIMIT) × IsOpen state
-IsEventOf (Some (event.Eof total)) state header = IsOpen state
+    (0 < length bytes.now) × (offset + length bytes.now ≤ LIMIT) × TakesMore state
+IsEventOf (Some (event.Eof total)) state header = TakesMore state
 IsEventOf (Some event.Eod) state header = IsDoneState state
 
 -- the step takes the front of the piece, and its event carries what these bytes bring; at most an EOD waits

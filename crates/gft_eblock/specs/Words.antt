@@ -2,5 +2,5 @@
 pub use Rattle.gft_eblock.specs.Arrival.{Arrival, Arrives, At, Bad, Eod, Eof, Refusal, eods, totals}
 pub use Rattle.gft_eblock.specs.Arrivals.{HasEnded, IsUnfinished, data_at}
 unfoldable pub use Rattle.gft_eblock.specs.Arrivals.{arrivals, blocks_from}
-pub use Rattle.gft_eblock.specs.Channel.{IsDone, Reader, refusal_of, to_come, wanted}
-pub use Rattle.gft_eblock.specs.Feeding.{Advances, Fails, event_arrivals}
+pub use Rattle.gft_eblock.specs.Channel.{IsDone, IsDoneState, Reader, refusal_of, to_come, wanted}
+pub use Rattle.gft_eblock.specs.Feeding.{Advances, Fails, IsEventOf, TakesMore, event_arrivals}

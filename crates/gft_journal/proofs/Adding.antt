@@ -6,7 +6,7 @@ use Rattle.gft_drive.specs.Words.{selected, slot, IsOpenAs, Has, Names, LastEnds
 use Rattle.gft_drive.specs.Words.{Written, DiffersIn}
 use Rattle.gft_drive.proofs.Lemmas.{IsLayout, written_differs, slot_moved, slot_same, others_bytes}
 use Rattle.gft_drive.proofs.Lemmas.{SameBut, names_same, names_added, ends_same, ends_last}
-use Rattle.gft_journal.specs.Slot.{IsSlot, Opens, bank_number}
+use Rattle.gft_journal.specs.Slot.{IsSlot, OpensSlot, bank_number}
 use Rattle.gft_journal.specs.Journal.{Matches, SameJournal, AddsRange, AddsOrNot, Completes, CompletesOrNot}
 use Rattle.gft_range.specs.declared.Range.{Range}
 use Rattle.gft_journal.specs.declared.journal.Journal.{Journal}
@@ -134,9 +134,9 @@ module _ (journal : Journal) (xs ys bytes : List ℕ) (range : Range) (at : ℕ)
   shut_next : (slot xs (selected xs) journal.next).gate ≢ 1
   shut_next = subst (λ (b : ℕ). (slot xs b journal.next).gate ≢ 1) (sym was.bank) (was.shut journal.next (omega arith) (omega (arith, room)))
 
-  pub opens_range : Opens at bytes xs ys → AddsOrNot range xs ys
+  pub opens_range : OpensSlot at bytes xs ys → AddsOrNot range xs ys
   opens_range opens =
-      let moved = subst (λ (p : ℕ). Opens p bytes xs ys) here opens in
+      let moved = subst (λ (p : ℕ). OpensSlot p bytes xs ys) here opens in
       adds_or_not xs ys bytes journal.next range (omega (arith, room)) some is moved.differs shut_next moved.opened
 
   pub writes_range : Written at bytes xs ys → AddsRange range xs ys
@@ -187,9 +187,9 @@ module _ (journal : Journal) (xs ys bytes : List ℕ) (len at : ℕ) (was : Matc
         moved : (k : ℕ) → k < 16 → get_or ys (place xs journal.next + k) 0 ≡ get_or bytes (0 + k) 0
         moved k below = let none : k ≡ 0 + k = omega arith in has k below ∙ ap (λ (i : ℕ). get_or bytes i 0) none
 
-  pub opens_end : Opens at bytes xs ys → CompletesOrNot len xs ys
+  pub opens_end : OpensSlot at bytes xs ys → CompletesOrNot len xs ys
   opens_end opens =
-      let moved = subst (λ (p : ℕ). Opens p bytes xs ys) end_here opens in
+      let moved = subst (λ (p : ℕ). OpensSlot p bytes xs ys) end_here opens in
       ⊎_elim
       (λ open_gate. inr (ends_whole moved.differs (λ k below. ⊎_elim
       (λ first. let none : place xs journal.next + 0 ≡ place xs journal.next = omega arith in

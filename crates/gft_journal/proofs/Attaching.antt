@@ -6,7 +6,7 @@ use Rattle.gft_drive.specs.Words.{Covers, DriveState, IsBorn, IsComplete, IsInta
 use Rattle.gft_drive.specs.declared.Part.TheVariants.{Bytes, Ranges}
 use Rattle.gft_drive.specs.declared.TheConstants.{MAX_RANGES}
 use Rattle.gft_drive.proofs.Lemmas.{bytes_still_synced, synced_looked}
-use Rattle.gft_journal.specs.Attach.{FindsIn, FoundOn, IsHead}
+use Rattle.gft_journal.specs.Attach.{FindsIn, FoundOn, IsJournalHead}
 use Rattle.gft_journal.specs.Damage.{FirstBadSlot, HasTooMany}
 use Rattle.gft_journal.specs.Journal.{Matches}
 use Rattle.gft_journal.specs.Scan.{IsBadAt, IsScan}
@@ -16,12 +16,12 @@ use Rattle.gft_journal.specs.declared.journal.Journal.{Journal}
 use Rattle.gft_journal.specs.declared.opening.Found.{Found}
 use Rattle.gft_journal.specs.declared.scan.Scan.{Scan}
 
-pub bad_slot : (xs : List ℕ) (number : ℕ) (is_born : Bool) (i : ℕ) → IsHead number is_born xs → i < 65534 → IsBadAt xs (bank_at number) i → FirstBadSlot xs (selected xs) i
+pub bad_slot : (xs : List ℕ) (number : ℕ) (is_born : Bool) (i : ℕ) → IsJournalHead number is_born xs → i < 65534 → IsBadAt xs (bank_at number) i → FirstBadSlot xs (selected xs) i
 bad_slot xs number is_born i head lt bad =
     let here = subst (λ (b : ℕ). IsBadAt xs (bank_at b) i) head.bank bad in
     record { within = lt; is_open = here.is_open; bad = here.bad; before = here.before }
 
-module _ (xs : List ℕ) (number : ℕ) (is_born : Bool) (scan : Scan) (head : IsHead number is_born xs) (is : IsScan xs (bank_at number) 65534 scan) where
+module _ (xs : List ℕ) (number : ℕ) (is_born : Bool) (scan : Scan) (head : IsJournalHead number is_born xs) (is : IsScan xs (bank_at number) 65534 scan) where
   here : IsScan xs (bank_at (selected xs)) 65534 scan
   here = subst (λ (b : ℕ). IsScan xs (bank_at b) 65534 scan) head.bank is
 

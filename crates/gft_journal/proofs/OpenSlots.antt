@@ -7,7 +7,7 @@ use Rattle.gft_drive.specs.Words.{Written, Torn, DiffersIn}
 use Rattle.gft_drive.specs.declared.Part.TheVariants.{Ranges}
 use Rattle.gft_drive.proofs.Lemmas.{Since, started, goes_on}
 use Rattle.gft_drive.proofs.Lemmas.{torn_differs, written_differs}
-use Rattle.gft_journal.specs.Slot.{Opens}
+use Rattle.gft_journal.specs.Slot.{OpensSlot}
 
 pub differs_more : (at n from m : ℕ) (xs ys : List ℕ) → from ≤ at → at + n ≤ from + m → DiffersIn at n xs ys → DiffersIn from m xs ys
 differs_more at n from m xs ys low high differs = record { before = λ k lt. differs.before k (omega (arith, lt, low)); after = λ k le. differs.after k (omega (arith, le, high)); size = differs.size }
@@ -23,10 +23,10 @@ module _ (at : ℕ) (slot bytes xs : List ℕ) (is_body : bytes ≡ drop 1 slot)
   length_body : length bytes ≡ 15
   length_body = omega (arith, ap length is_body, length-drop 1 slot, size)
 
-  pub unopened : Opens at slot xs xs
+  pub unopened : OpensSlot at slot xs xs
   unopened = record { differs = record { before = λ k lt. refl; after = λ k le. refl; size = refl }; opened = λ is. absurd (shut is) }
 
-  pub body_torn : (c : List ℕ) → Torn (at + 1) (length bytes) xs c → Opens at slot xs c
+  pub body_torn : (c : List ℕ) → Torn (at + 1) (length bytes) xs c → OpensSlot at slot xs c
   body_torn c torn =
       let differs = torn_differs (at + 1) (length bytes) xs c (omega (arith, length_body, within)) torn in
       record {
@@ -45,7 +45,7 @@ module _ (at : ℕ) (slot bytes xs : List ℕ) (is_body : bytes ≡ drop 1 slot)
         let index : 1 + (k - 1) ≡ k = omega (arith, some) in
         ap (λ (i : ℕ). get_or ys i 0) (sym place) ∙ there ∙ ap (λ (l : List ℕ). get_or l (k - 1) 0) is_body ∙ get_or-drop 1 slot (k - 1) 0 ∙ ap (λ (i : ℕ). get_or slot i 0) index
 
-    pub gate_torn : (c : List ℕ) → Torn at 1 ys c → Opens at slot xs c
+    pub gate_torn : (c : List ℕ) → Torn at 1 ys c → OpensSlot at slot xs c
     gate_torn c torn =
         let differs = torn_differs at 1 ys c (omega (arith, within, staged.size)) torn in
         record {
@@ -73,17 +73,17 @@ module _ (at : ℕ) (slot bytes xs : List ℕ) (is_body : bytes ≡ drop 1 slot)
 module _ (at : ℕ) (slot bytes : List ℕ) (start : DriveState) (read : Image) (lawful : IsLawful start) (told : start.contents ≡ Some read) (synced : IsSynced Ranges start)
     (is_body : bytes ≡ drop 1 slot) (size : length slot ≡ 16) (shut : get_or read.ranges at 0 ≢ 1) (within : at + 16 ≤ length read.ranges) where
   abbrev opens : List ℕ → Type 0
-  opens = Opens at slot read.ranges
+  opens = OpensSlot at slot read.ranges
 
-  pub body_since : (s : DriveState) → IsLawful s → Leaves Ranges (Torn (at + 1) (length bytes)) start s → Elapses start s → Since start s (Opens at slot read.ranges)
+  pub body_since : (s : DriveState) → IsLawful s → Leaves Ranges (Torn (at + 1) (length bytes)) start s → Elapses start s → Since start s (OpensSlot at slot read.ranges)
   body_since s lawful_s leaves time =
       let same : List ℕ → Type 0 = λ ys. ys ≡ read.ranges in
       let first = started start opens same read told (λ image left. (subst opens (sym (synced read image told left)) (unopened at slot bytes read.ranges is_body size shut within), synced read image told left)) in
       goes_on start start s opens same read (Torn (at + 1) (length bytes)) lawful lawful_s first leaves time
       (λ ys zs p exact torn. body_torn at slot bytes read.ranges is_body size shut within zs (subst (λ (l : List ℕ). Torn (at + 1) (length bytes) l zs) exact torn))
 
-  pub gate_since : (now s : DriveState) (staged : Image) → IsLawful now → IsLawful s → Since start now (Opens at slot read.ranges) → now.contents ≡ Some staged → IsSynced Ranges now
-      → Written (at + 1) bytes read.ranges staged.ranges → Leaves Ranges (Torn at 1) now s → Elapses now s → Since start s (Opens at slot read.ranges)
+  pub gate_since : (now s : DriveState) (staged : Image) → IsLawful now → IsLawful s → Since start now (OpensSlot at slot read.ranges) → now.contents ≡ Some staged → IsSynced Ranges now
+      → Written (at + 1) bytes read.ranges staged.ranges → Leaves Ranges (Torn at 1) now s → Elapses now s → Since start s (OpensSlot at slot read.ranges)
   gate_since now s staged lawful_now lawful_s since told_now synced_now written leaves time =
       let same : List ℕ → Type 0 = λ ys. ys ≡ staged.ranges in
       goes_on start now s opens same staged (Torn at 1) lawful_now lawful_s (record { since = since; held = λ image left. synced_now staged image told_now left; told = told_now }) leaves time

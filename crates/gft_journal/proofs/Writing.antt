@@ -18,7 +18,7 @@ pub record Staged (start now : DriveState) (at : ℕ) (slots : List Slot) (n : �
   pub units : HasUnits slots 0 (256 * n) staged.ranges at
   pub bytes : staged.bytes ≡ read.bytes
 
-pub record Writing (start now : DriveState) (at : ℕ) (slots : List Slot) (n : ℕ) : Type 0 where
+pub record WritingBank (start now : DriveState) (at : ℕ) (slots : List Slot) (n : ℕ) : Type 0 where
   pub time : Elapses start now
   pub faults : now.faults ≡ start.faults
   pub run : (read : Image) → start.contents ≡ Some read → Staged start now at slots n read
@@ -26,7 +26,7 @@ pub record Writing (start now : DriveState) (at : ℕ) (slots : List Slot) (n : 
 differs_refl : (at n : ℕ) (xs : List ℕ) → DiffersIn at n xs xs
 differs_refl at n xs = record { before = λ k lt. refl; after = λ k le. refl; size = refl }
 
-pub none_written : (start : DriveState) (at : ℕ) (slots : List Slot) → IsSynced Ranges start → Writing start start at slots 0
+pub none_written : (start : DriveState) (at : ℕ) (slots : List Slot) → IsSynced Ranges start → WritingBank start start at slots 0
 none_written start at slots synced = record {
   time = elapses_refl start;
   faults = refl;
@@ -41,7 +41,7 @@ none_written start at slots synced = record {
       };
 }
 
-module _ (start now new : DriveState) (at : ℕ) (slots : List Slot) (n : ℕ) (piece : List ℕ) (so_far : Writing start now at slots n) (lawful_now : IsLawful now) (lawful_new : IsLawful new)
+module _ (start now new : DriveState) (at : ℕ) (slots : List Slot) (n : ℕ) (piece : List ℕ) (so_far : WritingBank start now at slots n) (lawful_now : IsLawful now) (lawful_new : IsLawful new)
     (within : HasBank at start) (below : n < 256) (size : length piece ≡ 4096) (place : ℕ) (is_place : place ≡ at + 16 * (256 * n))
     (leaves : Leaves Ranges (Torn place (length piece)) now new) (time : Elapses now new) where
   torn_inside : (xs ys zs : List ℕ) → at + bank_size ≤ length xs → DiffersIn at bank_size xs ys → Torn place (length piece) ys zs → DiffersIn at bank_size xs zs
@@ -61,7 +61,7 @@ module _ (start now new : DriveState) (at : ℕ) (slots : List Slot) (n : ℕ) (
   pub piece_time : Elapses start new
   piece_time = elapses_trans start now new lawful_new so_far.time time
 
-  pub piece_written : new.faults ≡ now.faults → HasUnits slots (256 * n) 256 piece 0 → Reads Ranges (Written place piece) now new → Writing start new at slots (n + 1)
+  pub piece_written : new.faults ≡ now.faults → HasUnits slots (256 * n) 256 piece 0 → Reads Ranges (Written place piece) now new → WritingBank start new at slots (n + 1)
   piece_written faults units reads = record {
     time = piece_time;
     faults = faults ∙ so_far.faults;
@@ -87,10 +87,10 @@ module _ (start now new : DriveState) (at : ℕ) (slots : List Slot) (n : ℕ) (
   }
 
 -- the whole bank is written
-pub bank_written : (start now : DriveState) (at : ℕ) (slots : List Slot) → Writing start now at slots 256 → Reads Ranges (WritesBank at slots) start now
+pub bank_written : (start now : DriveState) (at : ℕ) (slots : List Slot) → WritingBank start now at slots 256 → Reads Ranges (WritesBank at slots) start now
 bank_written start now at slots whole read told =
     let stage = whole.run read told in
     (stage.staged, stage.phase.told, record { changed = record { differs = stage.differs; units = stage.units }; kept = stage.bytes })
 
-pub bank_leaves : (start now : DriveState) (at n : ℕ) (slots : List Slot) → IsSynced Ranges start → Writing start now at slots n → Leaves Ranges (DiffersIn at bank_size) start now
+pub bank_leaves : (start now : DriveState) (at n : ℕ) (slots : List Slot) → IsSynced Ranges start → WritingBank start now at slots n → Leaves Ranges (DiffersIn at bank_size) start now
 bank_leaves start now at n slots synced so_far = leaves_by start now (DiffersIn at bank_size) synced (λ read told. (so_far.run read told).phase.since)

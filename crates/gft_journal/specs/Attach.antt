@@ -51,7 +51,7 @@ IsDamageOf drive result = (damage : Damage) → result ≡ Err (Damaged damage)
 -- ---- the head and the slots, one after another
 
 -- the part has its length, its selected bank is this one, of a known version, and says this of the birth
-pub record IsHead (number : ℕ) (is_born : Bool) (xs : List ℕ) : Type 0 where
+pub record IsJournalHead (number : ℕ) (is_born : Bool) (xs : List ℕ) : Type 0 where
   pub size : length xs ≡ RANGES_LEN
   pub bank : number ≡ selected xs
   pub born : IsTrue is_born ↔ IsBorn xs

@@ -24,7 +24,7 @@ pub record IsShut (at : ℕ) (drive : DriveState) : Type 0 where
   pub small : at < 2 ^ 32
 
 -- only this slot has changed, and where its gate is open it is this one
-pub record Opens (at : ℕ) (slot old new : List ℕ) : Type 0 where
+pub record OpensSlot (at : ℕ) (slot old new : List ℕ) : Type 0 where
   pub differs : DiffersIn at 16 old new
   pub opened : slice_index new at ≡ 1 → (k : ℕ) → 1 ≤ k → k < 16
       → slice_index new (at + k) ≡ slice_index slot k

@@ -4,7 +4,7 @@ ghost use Rattle.gft_drive.specs.Words.{Elapses, Reads, Leaves, IsSynced};
 ghost use Rattle.gft_drive.specs.Words.{Written};
 ghost use Rattle.gft_base.specs.Words.{HasCause};
 ghost use Rattle.gft_drive.specs.Words.{first_layout, bank_at, slot_at};
-ghost use Rattle.gft_journal.specs.Slot.{Opens, IsShut};
+ghost use Rattle.gft_journal.specs.Slot.{OpensSlot, IsShut};
 ghost use Rattle.gft_journal.specs.Journal.{IsJournalOf, slots_left, IsRange, AddsRange, AddsOrNot, Becomes};
 ghost use Rattle.gft_journal.specs.Journal.{BecomesOrNot, AreJustBelow, Completes, CompletesOrNot, Bears};
 ghost use Rattle.gft_journal.specs.Journal.{BearsOrNot};
@@ -179,7 +179,7 @@ fn open_slot<D: Drive>(drive: &mut D, at: u64, slot: &[u8]) -> Result<(), Failed
     ensures synced { OnOk result (IsSynced Ranges (D.state drive.new)) }
     ensures written { OnOk result (Reads Ranges (Written at slot.now) (D.state drive.old)
         (D.state drive.new)) }
-    ensures any_moment { Leaves Ranges (Opens at slot.now) (D.state drive.old) (D.state drive.new) }
+    ensures any_moment { Leaves Ranges (OpensSlot at slot.now) (D.state drive.old) (D.state drive.new) }
     ensures time { Elapses (D.state drive.old) (D.state drive.new) }
     ensures cause { HasCause (D.state drive.old).faults (D.state drive.new).faults result }
 {

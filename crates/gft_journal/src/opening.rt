@@ -1,6 +1,6 @@
 ghost use Rattle.std.specs.Prelude.{◌≡◌, ℕ, ◌+◌, ◌≤◌, length, slice_index, IfOk, OnOk};
 ghost use Rattle.gft_drive.specs.Words.{Unchanged, bank_at};
-ghost use Rattle.gft_journal.specs.Attach.{FoundOn, HasSize, IsBadOf, IsDamageOf, IsFirstBadOf, IsHead};
+ghost use Rattle.gft_journal.specs.Attach.{FoundOn, HasSize, IsBadOf, IsDamageOf, IsFirstBadOf, IsJournalHead};
 ghost use Rattle.gft_journal.specs.Attach.{FindsIn, HasBytesAt, HasNoDamage, IsSelected, IsVersionOf};
 ghost use Rattle.gft_journal.specs.Attach.{Rests, ScansOn, WhereTold};
 ghost use Rattle.gft_journal.specs.Damage.{HasAttachCause};
@@ -78,7 +78,7 @@ fn read_journal<D: Drive>(alloc: Global, drive: &mut D) -> Result<Found, AttachE
 
 // The selected bank, and whether the drive is born.
 fn read_head<D: Drive>(drive: &mut D) -> Result<(Bank, bool), AttachError>
-    ensures head { IfOk result (λ head. WhereTold (D.state drive.old) (IsHead (bank_number head.0) head.1)) }
+    ensures head { IfOk result (λ head. WhereTold (D.state drive.old) (IsJournalHead (bank_number head.0) head.1)) }
     ensures damaged { IsDamageOf (D.state drive.old) result }
     ensures unchanged { Unchanged (D.state drive.old) (D.state drive.new) }
     ensures cause { HasAttachCause (D.state drive.old).faults (D.state drive.new).faults result }
@@ -108,7 +108,7 @@ fn read_size<D: Drive>(drive: &mut D) -> Result<(), AttachError>
 // The head of a part that has its length.
 fn read_banks<D: Drive>(drive: &mut D) -> Result<(Bank, bool), AttachError>
     requires size { HasSize (D.state drive.old) }
-    ensures head { IfOk result (λ head. WhereTold (D.state drive.old) (IsHead (bank_number head.0) head.1)) }
+    ensures head { IfOk result (λ head. WhereTold (D.state drive.old) (IsJournalHead (bank_number head.0) head.1)) }
     ensures damaged { IsDamageOf (D.state drive.old) result }
     ensures unchanged { Unchanged (D.state drive.old) (D.state drive.new) }
     ensures cause { HasAttachCause (D.state drive.old).faults (D.state drive.new).faults result }

@@ -239,6 +239,17 @@ fn attaches(rt: &impl Abort, drive: &MemoryDrive, from: usize) {
     }
 }
 
+/// The calls by which the slot at this place is opened: its body and its gate, each with its sync.
+fn slot_calls(at: u64) -> [(CallKind, u64, u64); 4] {
+    use CallKind::{Sync, Write};
+    [
+        (Write, at.saturating_add(1), 15),
+        (Sync, 0, 0),
+        (Write, at, 1),
+        (Sync, 0, 0),
+    ]
+}
+
 #[test]
 fn calls_come_in_their_order(rt: HostRuntime) -> Result<(), Fail> {
     use CallKind::{Sync, Write};
@@ -251,36 +262,17 @@ fn calls_come_in_their_order(rt: HostRuntime) -> Result<(), Fail> {
     let birth = [(Write, 1, 1), (Sync, 0, 0)];
     are_calls(&rt, &drive, 261, &birth);
     for (i, at) in [96, 112, 128].iter().enumerate() {
-        let slot = [
-            (Write, at + 1, 15),
-            (Sync, 0, 0),
-            (Write, *at, 1),
-            (Sync, 0, 0),
-        ];
-        are_calls(&rt, &drive, 263 + 4 * i, &slot);
+        are_calls(&rt, &drive, 263 + 4 * i, &slot_calls(*at));
     }
     attaches(&rt, &drive, 275);
-    let complete = [
-        (Write, 145, 15),
-        (Sync, 0, 0),
-        (Write, 144, 1),
-        (Sync, 0, 0),
-    ];
-    are_calls(&rt, &drive, 536, &complete);
+    are_calls(&rt, &drive, 536, &slot_calls(144));
     for i in 0..256 {
         let piece = [(Write, 1_048_640 + 4_096 * i, 4_096)];
         are_calls(&rt, &drive, 540 + i as usize, &piece);
     }
-    let flip = [
-        (Sync, 0, 0),
-        (Write, 0, 1),
-        (Sync, 0, 0),
-        (Write, 1_048_705, 15),
-        (Sync, 0, 0),
-        (Write, 1_048_704, 1),
-        (Sync, 0, 0),
-    ];
+    let flip = [(Sync, 0, 0), (Write, 0, 1), (Sync, 0, 0)];
     are_calls(&rt, &drive, 796, &flip);
+    are_calls(&rt, &drive, 799, &slot_calls(1_048_704));
     assert_eq!(rt; drive.count(), 803);
     Ok(())
 }

@@ -82,12 +82,12 @@ module _ (set : List Range) (block : Range) (bytes : List ℕ) (fills : FillsBlo
   writes read staged image start step = written_torn read image start.sound start.facts (subst (λ (i : Image). OnPart Bytes (KeepsBytes set) i image) start.same step)
 
 -- once the bytes are written
-pub record Written (set : List Range) (block : Range) (bytes : List ℕ) (read image : Image) : Type 0 where
+pub record HasWritten (set : List Range) (block : Range) (bytes : List ℕ) (read image : Image) : Type 0 where
   pub fills : Fills set block bytes read.bytes image.bytes
   pub takes : TakesBlocks set image
   pub sound : IsSound image
 
-pub is_written : (set : List Range) (block : Range) (bytes : List ℕ) (read staged image : Image) → IsStart (TakesBlocks set) read staged → OnPart Bytes (Fills set block bytes) staged image → Written set block bytes read image
+pub is_written : (set : List Range) (block : Range) (bytes : List ℕ) (read staged image : Image) → IsStart (TakesBlocks set) read staged → OnPart Bytes (Fills set block bytes) staged image → HasWritten set block bytes read image
 is_written set block bytes read staged image start step =
     let fills = subst (λ (i : Image). OnPart Bytes (Fills set block bytes) i image) start.same step in
     let same = λ (x : ℕ). subst (λ (l : List ℕ). Covers l x ↔ Covers read.ranges x) (sym fills.kept) iff_refl in
@@ -111,7 +111,7 @@ pub record NamesAlso (set : List Range) (G : ℕ → Type 0) (image : Image) : T
   pub incomplete : (n : ℕ) → ¬ IsComplete image.ranges n
   pub born : IsBorn image.ranges
 
-module _ (set : List Range) (block : Range) (bytes : List ℕ) (fills : FillsBlock block bytes) (read staged image : Image) (written : Written set block bytes read staged) (same : image.bytes ≡ staged.bytes) where
+module _ (set : List Range) (block : Range) (bytes : List ℕ) (fills : FillsBlock block bytes) (read staged image : Image) (written : HasWritten set block bytes read staged) (same : image.bytes ≡ staged.bytes) where
   -- a byte of the block that the set lacks
   block_byte : (x : ℕ) → InRange block x → ¬ HasOffset set x → (slice_index image.bytes x ≡ slice_index bytes (x - block.start)) × (x < length image.bytes)
   block_byte x inside out =
@@ -149,7 +149,7 @@ module _ (set : List Range) (block : Range) (bytes : List ℕ) (fills : FillsBlo
     }
 
 -- what is left once the block is stored
-pub record IsStored (set : List Range) (block : Range) (bytes : List ℕ) (read image : Image) : Type 0 where
+pub record HasBlock (set : List Range) (block : Range) (bytes : List ℕ) (read image : Image) : Type 0 where
   pub torn : TornOpen set block.start bytes read image
   pub all : (x : ℕ) → InRange block x → HasOffset set x ⊎ Holds image x (slice_index bytes (x - block.start))
   pub names : (x : ℕ) → Covers image.ranges x ↔ (HasOffset set x ⊎ InRange block x)
@@ -160,8 +160,8 @@ abbrev pub Lacking : List Range → Range → ℕ → Type 0
 Lacking set block x = InRange block x × ¬ HasOffset set x
 
 -- the missing offsets are named
-all_stored : (set : List Range) (block : Range) (bytes : List ℕ) → FillsBlock block bytes → (read staged image : Image) → Written set block bytes read staged → image.bytes ≡ staged.bytes
-    → NamesAlso set (Lacking set block) image → IsStored set block bytes read image
+all_stored : (set : List Range) (block : Range) (bytes : List ℕ) → FillsBlock block bytes → (read staged image : Image) → HasWritten set block bytes read staged → image.bytes ≡ staged.bytes
+    → NamesAlso set (Lacking set block) image → HasBlock set block bytes read image
 all_stored set block bytes fills read staged image written same named = record {
   torn = also_torn set block bytes fills read staged image written same (Lacking set block) (λ x new. new) named;
   all = λ x inside. elim (HasOffset-or set x) [
@@ -201,7 +201,7 @@ module _ (set : List Range) (block : Range) (bytes : List ℕ) (fills : FillsBlo
         born = rest.born.1 takes.born;
       }
 
-  pub appends : (read staged image : Image) → Written set block bytes read staged → OnPart Ranges (AddsFront set block) staged image → TornOpen set block.start bytes read image
+  pub appends : (read staged image : Image) → HasWritten set block bytes read staged → OnPart Ranges (AddsFront set block) staged image → TornOpen set block.start bytes read image
   appends read staged image written step =
       let adds = step.changed.adds in
       also_torn set block bytes fills read staged image written step.kept (HasOffset adds.front)
@@ -212,7 +212,7 @@ module _ (set : List Range) (block : Range) (bytes : List ℕ) (fills : FillsBlo
       in_front front left x has = (has_either front left x).1 (inl has)
 
   -- all of them are
-  pub is_appended : (read staged image : Image) → Written set block bytes read staged → OnPart Ranges (AddsMissing set block) staged image → IsStored set block bytes read image
+  pub is_appended : (read staged image : Image) → HasWritten set block bytes read staged → OnPart Ranges (AddsMissing set block) staged image → HasBlock set block bytes read image
   is_appended read staged image written step =
       let union = union_of set block normal some in
       let names : (x : ℕ) → Covers image.ranges x ↔ (HasOffset set x ⊎ Lacking set block x) = λ x. (
@@ -264,13 +264,13 @@ module _ (set : List Range) (block : Range) (bytes : List ℕ) (fills : FillsBlo
     born = same.rest.born.1 takes.born;
   }
 
-  pub changes_over : (union : List Range) → IsUnion set block union → (read staged image : Image) → Written set block bytes read staged → OnPart Ranges (BecomesOrNot union None) staged image → TornOpen set block.start bytes read image
+  pub changes_over : (union : List Range) → IsUnion set block union → (read staged image : Image) → HasWritten set block bytes read staged → OnPart Ranges (BecomesOrNot union None) staged image → TornOpen set block.start bytes read image
   changes_over union is read staged image written step = ⊎_elim
       (λ same. also_torn set block bytes fills read staged image written step.kept (λ x. ⊥) (λ x none. absurd none) (same_named staged image written.takes written.sound same))
       (λ becomes. also_torn set block bytes fills read staged image written step.kept (Lacking set block) (λ x new. new) (union_named staged image union is written.takes written.sound.intact becomes))
       step.changed
 
-  pub is_changed_over : (union : List Range) → IsUnion set block union → (read staged image : Image) → Written set block bytes read staged → OnPart Ranges (Becomes union None) staged image → IsStored set block bytes read image
+  pub is_changed_over : (union : List Range) → IsUnion set block union → (read staged image : Image) → HasWritten set block bytes read staged → OnPart Ranges (Becomes union None) staged image → HasBlock set block bytes read image
   is_changed_over union is read staged image written step =
       all_stored set block bytes fills read staged image written step.kept (union_named staged image union is written.takes written.sound.intact step.changed)
 
@@ -286,10 +286,10 @@ open_stores set offset bytes read image exact torn = record {
 
 -- a whole keep of the union
 pub stage_stores : (set : List Range) (block : Range) (bytes : List ℕ) (answer : ℕ) (journal : Journal) (old new : DriveState) → FillsBlock block bytes → IsLawful new → Elapses old new
-    → ((read : Image) → old.contents ≡ Some read → (x : ℕ) → Covers read.ranges x ↔ HasOffset set x) → Stage (TornOpen set block.start bytes) (IsStored set block bytes) journal old new → IsNewCount set block answer → StoresBlock set block bytes journal old new answer
+    → ((read : Image) → old.contents ≡ Some read → (x : ℕ) → Covers read.ranges x ↔ HasOffset set x) → Stage (TornOpen set block.start bytes) (HasBlock set block bytes) journal old new → IsNewCount set block answer → StoresBlock set block bytes journal old new answer
 stage_stores set block bytes answer journal old new fills lawful time exact stage count = record {
   stands = λ union is. ready_stands (open_keep new union journal) stage.ready (λ read told.
-      let from = read_from (IsStored set block bytes) old new time stage.reads read told in
+      let from = read_from (HasBlock set block bytes) old new time stage.reads read told in
       record {
         read = told;
         ranges = λ x. (λ covered. (is.offsets x).1 ((from.2.names x).0 covered), λ has. (from.2.names x).1 ((is.offsets x).0 has));

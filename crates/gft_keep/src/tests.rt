@@ -134,6 +134,17 @@ fn call(call: CallKind, part: Part, at: u64, len: u64) -> DriveCall {
     }
 }
 
+/// The calls by which the slot at this place is opened: its body and its gate, each with its sync.
+fn opens(at: u64) -> [DriveCall; 4] {
+    use CallKind::{Sync, Write};
+    [
+        call(Write, Part::Ranges, at.saturating_add(1), 15),
+        call(Sync, Part::Ranges, 0, 0),
+        call(Write, Part::Ranges, at, 1),
+        call(Sync, Part::Ranges, 0, 0),
+    ]
+}
+
 // 262 calls attach, and 263 begin afresh: 2 of the birth, 259 of the rebase, the cut and its sync.
 #[test]
 fn calls_come_in_their_order(rt: HostRuntime) -> Result<(), Fail> {
@@ -155,25 +166,19 @@ fn calls_come_in_their_order(rt: HostRuntime) -> Result<(), Fail> {
         call(Write, Ranges, 1_048_640, 4_096),
     ];
     are_calls(&rt, &drive, 261, &begins);
-    let stores = [
+    let empties = [
         call(Write, Ranges, 0, 1),
         call(Sync, Ranges, 0, 0),
         call(Cut, Bytes, 0, 0),
         call(Sync, Bytes, 0, 0),
-        call(Write, Bytes, 0, 5),
-        call(Sync, Bytes, 0, 0),
-        call(Write, Ranges, 1_048_673, 15),
-        call(Sync, Ranges, 0, 0),
-        call(Write, Ranges, 1_048_672, 1),
-        call(Sync, Ranges, 0, 0),
-        call(Cut, Bytes, 0, 5),
-        call(Sync, Bytes, 0, 0),
-        call(Write, Ranges, 1_048_689, 15),
-        call(Sync, Ranges, 0, 0),
-        call(Write, Ranges, 1_048_688, 1),
-        call(Sync, Ranges, 0, 0),
     ];
-    are_calls(&rt, &drive, 521, &stores);
+    are_calls(&rt, &drive, 521, &empties);
+    let stores = [call(Write, Bytes, 0, 5), call(Sync, Bytes, 0, 0)];
+    are_calls(&rt, &drive, 525, &stores);
+    are_calls(&rt, &drive, 527, &opens(1_048_672));
+    let finishes = [call(Cut, Bytes, 0, 5), call(Sync, Bytes, 0, 0)];
+    are_calls(&rt, &drive, 531, &finishes);
+    are_calls(&rt, &drive, 533, &opens(1_048_688));
     assert_eq!(rt; drive.count(), 537);
     assert_eq!(rt; drive.bytes(), b"hello".as_slice());
     let part = drive.ranges_part();
@@ -441,41 +446,56 @@ fn what_was_kept_stays_over_a_change_of_banks(rt: HostRuntime) -> Result<(), Fai
     Ok(())
 }
 
-// 8 calls make the drive, and 262 attach it; then come 2 writes, a sync, and 259 of the rebase.
-#[test]
-fn a_change_over_that_is_stopped_has_the_old_or_the_union(rt: HostRuntime) -> Result<(), Fail> {
+/// Stops a change of banks behind this many calls, and attaches what is left, in each way.
+fn stop_change(rt: &(impl Abort + Copy), alloc: Global, calls: u32) -> Result<(), Fail> {
     let both = [range(0, 5), range(10, 15)];
-    for calls in [270, 271, 272, 273, 529, 530, 531, 532] {
-        for choice in CHOICES {
-            let mut slots = None;
-            let mut stored = false;
-            let drive = made(rt.alloc(), calls, &[])?;
-            let left = fill(rt.alloc(), drive, &mut slots, &mut stored).crash(choice);
-            let Ok(mut keep) = opened(rt.alloc(), left) else {
-                panic!(rt; "what is left is attached");
-            };
-            let ranges = keep.ranges().as_slice();
-            let is_union = ranges == [range(0, 20)].as_slice();
-            assert!(rt;
-                is_union || !stored && ranges == both.as_slice(),
-                "{ranges:?}"
+    for choice in CHOICES {
+        let (mut slots, mut stored) = (None, false);
+        let drive = made(alloc, calls, &[])?;
+        let left = fill(alloc, drive, &mut slots, &mut stored).crash(choice);
+        let Ok(mut keep) = opened(alloc, left) else {
+            panic!(rt; "what is left is attached");
+        };
+        let ranges = keep.ranges().as_slice();
+        let is_union = ranges == [range(0, 20)].as_slice();
+        assert!(rt;
+            is_union || !stored && ranges == both.as_slice(),
+            "{ranges:?}"
+        );
+        let mut buf = [0; 32];
+        assert_eq!(rt; keep.read(0, &mut buf)?, 20);
+        let held: &[(usize, usize)] = if is_union {
+            &[(0, 20)]
+        } else {
+            &[(0, 5), (10, 15)]
+        };
+        for &(from, to) in held {
+            assert_eq!(rt;
+                part_of(&buf, from, to),
+                part_of(FILLED, from, to),
+                "at {calls}"
             );
-            let mut buf = [0; 32];
-            let count = keep.read(0, &mut buf)?;
-            assert_eq!(rt; count, 20);
-            let held: &[(usize, usize)] = if is_union {
-                &[(0, 20)]
-            } else {
-                &[(0, 5), (10, 15)]
-            };
-            for &(from, to) in held {
-                assert_eq!(rt;
-                    part_of(&buf, from, to),
-                    part_of(FILLED, from, to),
-                    "at {calls}"
-                );
-            }
         }
+    }
+    Ok(())
+}
+
+// 8 calls make the drive, and 262 attach it, which changes nothing; then come 2 writes, a sync, and 259 of
+// the rebase.
+#[test]
+fn a_change_of_banks_that_is_stopped_early_has_the_old_ranges(rt: HostRuntime) -> Result<(), Fail> {
+    for calls in 269..401 {
+        stop_change(&rt, rt.alloc(), calls)?;
+    }
+    Ok(())
+}
+
+#[test]
+fn a_change_of_banks_that_is_stopped_late_has_the_old_or_the_union(
+    rt: HostRuntime,
+) -> Result<(), Fail> {
+    for calls in 401..534 {
+        stop_change(&rt, rt.alloc(), calls)?;
     }
     Ok(())
 }

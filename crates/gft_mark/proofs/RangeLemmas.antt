@@ -66,11 +66,11 @@ range-read reply text set code one line list some = record {
 -- ---- a list of ranges has a text
 
 -- a short text without an LF
-abbrev pub IsShort : ℕ → List ℕ → Type 0
-IsShort most text = Lacks line_feed text × (length text ≤ most)
+abbrev pub IsShortLine : ℕ → List ℕ → Type 0
+IsShortLine most text = Lacks line_feed text × (length text ≤ most)
 
 -- short texts joined by a separator
-joined-short : (separator most : ℕ) (texts : List (List ℕ)) → eqb separator line_feed ≡ false → AllByRecursion (IsShort most) texts → IsShort (length texts * (most + 1)) (join_with_byte separator texts)
+joined-short : (separator most : ℕ) (texts : List (List ℕ)) → eqb separator line_feed ≡ false → AllByRecursion (IsShortLine most) texts → IsShortLine (length texts * (most + 1)) (join_with_byte separator texts)
 joined-short separator most [] apart short = (All-nil (λ b. eqb b line_feed ≡ false), omega arith)
 joined-short separator most (text ∷ []) apart short = (short.0.0, omega (arith, short.0.1))
 joined-short separator most (text ∷ next ∷ texts) apart short =
@@ -80,32 +80,32 @@ joined-short separator most (text ∷ next ∷ texts) apart short =
     (All-append P text (separator ∷ rest) short.0.0 (All-cons P separator rest apart behind.0), omega (arith, length-append text (separator ∷ rest), short.0.1, behind.1))
 
 -- where each text with a value is short, so is each of the list
-zip-short : {B : Type 0} (R : List ℕ → B → Type 0) (most : ℕ) → ((text : List ℕ) (value : B) → R text value → IsShort most text) → (texts : List (List ℕ)) (values : List B) → AllZip R texts values → AllByRecursion (IsShort most) texts
+zip-short : {B : Type 0} (R : List ℕ → B → Type 0) (most : ℕ) → ((text : List ℕ) (value : B) → R text value → IsShortLine most text) → (texts : List (List ℕ)) (values : List B) → AllZip R texts values → AllByRecursion (IsShortLine most) texts
 zip-short R most short [] [] all = tt
 zip-short R most short [] (value ∷ values) all = tt
 zip-short R most short (text ∷ texts) [] all = absurd all
 zip-short R most short (text ∷ texts) (value ∷ values) all = (short text value all.0, zip-short R most short texts values all.1)
 
 -- a text whose parts have values is short
-parts-short : {B : Type 0} (R : List ℕ → B → Type 0) (separator most : ℕ) (text : List ℕ) (values : List B) → eqb separator line_feed ≡ false → ((part : List ℕ) (value : B) → R part value → IsShort most part) → AllZip R (parts_at separator text) values → IsShort (length values * (most + 1)) text
+parts-short : {B : Type 0} (R : List ℕ → B → Type 0) (separator most : ℕ) (text : List ℕ) (values : List B) → eqb separator line_feed ≡ false → ((part : List ℕ) (value : B) → R part value → IsShortLine most part) → AllZip R (parts_at separator text) values → IsShortLine (length values * (most + 1)) text
 parts-short R separator most text values apart short all =
     let texts = joined-short separator most (parts_at separator text) apart (zip-short R most short (parts_at separator text) values all) in
-    let P : List ℕ → Type 0 = λ joined. IsShort (length (parts_at separator text) * (most + 1)) joined in
+    let P : List ℕ → Type 0 = λ joined. IsShortLine (length (parts_at separator text) * (most + 1)) joined in
     let whole = subst P (join_with_byte-slice_split separator text) texts in
-    let count : ℕ → Type 0 = λ n. IsShort (n * (most + 1)) text in
+    let count : ℕ → Type 0 = λ n. IsShortLine (n * (most + 1)) text in
     subst count (AllZip-length R (parts_at separator text) values all) whole
 
-number-short : (text : List ℕ) (n : ℕ) → IsNumber text n → IsShort 20 text
+number-short : (text : List ℕ) (n : ℕ) → IsNumber text n → IsShortLine 20 text
 number-short text n number = (digits_apart line_feed text (lit< tt) number.digits, number.short)
 
-item-short : (text : List ℕ) (r : Range) → IsItem text r → IsShort 42 text
+item-short : (text : List ℕ) (r : Range) → IsItem text r → IsShortLine 42 text
 item-short text r item = elim item [
   | inl two ↦ let all = parts-short IsNumber dash 20 text (r.start ∷ r.end ∷ []) refl number-short two.0 in (all.0, omega (arith, all.1))
   | inr one ↦ let all = parts-short IsNumber dash 20 text (r.end ∷ []) refl number-short one.0 in (all.0, omega (arith, all.1))
 ]
 
 -- a text of 512 items at most
-pub list-short : (text : List ℕ) (set : List Range) → IsList text set → IsShort 22016 text
+pub list-short : (text : List ℕ) (set : List Range) → IsList text set → IsShortLine 22016 text
 list-short text set list =
     let all = parts-short IsItem comma 42 text list.items refl item-short list.read in
     (all.0, omega (arith, all.1, AllZip-length IsItem (items_of text) list.items list.read, list.few))

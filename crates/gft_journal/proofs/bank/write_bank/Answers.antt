@@ -2,7 +2,7 @@ use Rattle.std.proofs.Common.{◌≡◌, ℕ, subst, arith}
 use Rattle.gft_drive.specs.Words.{bank_at}
 use Rattle.gft_journal.specs.Slot.{bank_number}
 use Rattle.gft_journal.specs.Bank.{slots_of}
-use Rattle.gft_journal.proofs.Writing.{Writing, none_written, piece_leaves, piece_written, bank_written, bank_leaves}
+use Rattle.gft_journal.proofs.Writing.{WritingBank, none_written, piece_leaves, piece_written, bank_written, bank_leaves}
 use Rattle.gft_journal.proofs.bank.write_bank.Goals as goal
 
 pub loop-i-init : goal.loop-i-init
@@ -29,7 +29,7 @@ returns-clause-written g c =
     let at = bank_at (bank_number c.args.bank) in
     let slots = slots_of c.args.set.now c.args.complete in
     let all : c.loop-i.i ≡ 256 = omega arith in
-    bank_written (s c.args.drive.now) (s c.loop-i.drive) at slots (subst (λ (n : ℕ). Writing (s c.args.drive.now) (s c.loop-i.drive) at slots n) all c.loop-i.invariant)
+    bank_written (s c.args.drive.now) (s c.loop-i.drive) at slots (subst (λ (n : ℕ). WritingBank (s c.args.drive.now) (s c.loop-i.drive) at slots n) all c.loop-i.invariant)
 
 pub returns-clause-any_moment : goal.returns-clause-any_moment
 returns-clause-any_moment g c =

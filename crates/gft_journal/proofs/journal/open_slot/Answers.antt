@@ -1,7 +1,7 @@
 use Rattle.std.proofs.Common.{◌≡◌, ◌-◌, List, ℕ, length, drop, take, ◌∙◌, arith, length-drop}
 use Rattle.std.proofs.lemmas.List.{take_all}
 use Rattle.gft_drive.proofs.Lemmas.{sync_goes_on, leaves_by}
-use Rattle.gft_journal.specs.Slot.{Opens}
+use Rattle.gft_journal.specs.Slot.{OpensSlot}
 use Rattle.gft_journal.proofs.OpenSlots.{body_since, gate_since}
 use Rattle.gft_journal.proofs.journal.open_slot.Goals as goal
 
@@ -13,7 +13,7 @@ returns-in_err-write_at-clause-any_moment g c =
     let s = g.D.Drive.state in
     let laws = (g.met.D.Drive g.world.𝓛 g.world.𝓜 g.world.𝓡 ((λ s x. x), (λ x. x), (λ x. x), λ x. x)).lawful in
     let start = c.args.drive.now in
-    leaves_by (s start) (s c.write_at.new.self) (Opens c.args.at c.args.slot.now) c.requires.synced (λ read told.
+    leaves_by (s start) (s c.write_at.new.self) (OpensSlot c.args.at c.args.slot.now) c.requires.synced (λ read told.
     body_since c.args.at c.args.slot.now _ (s start) read (laws start) told c.requires.synced (is_body c.args.slot.now) c.requires.size (c.requires.shut.gate read told) (c.requires.shut.within read told)
     (s c.write_at.new.self) (laws c.write_at.new.self) c.write_at.ensures.crash c.write_at.ensures.only.time)
 
@@ -22,7 +22,7 @@ returns-in_err-sync-clause-any_moment g c =
     let s = g.D.Drive.state in
     let laws = (g.met.D.Drive g.world.𝓛 g.world.𝓜 g.world.𝓡 ((λ s x. x), (λ x. x), (λ x. x), λ x. x)).lawful in
     let start = c.args.drive.now in
-    leaves_by (s start) (s c.sync.new.self) (Opens c.args.at c.args.slot.now) c.requires.synced (λ read told.
+    leaves_by (s start) (s c.sync.new.self) (OpensSlot c.args.at c.args.slot.now) c.requires.synced (λ read told.
     let body = body_since c.args.at c.args.slot.now _ (s start) read (laws start) told c.requires.synced (is_body c.args.slot.now) c.requires.size (c.requires.shut.gate read told) (c.requires.shut.within read told)
     (s c.write_at.new.self) (laws c.write_at.new.self) c.write_at.ensures.crash c.write_at.ensures.only.time in
     let staged = c.in_ok-write_at.ensures.written read told in
@@ -33,7 +33,7 @@ returns-in_err-write_at-2-clause-any_moment g c =
     let s = g.D.Drive.state in
     let laws = (g.met.D.Drive g.world.𝓛 g.world.𝓜 g.world.𝓡 ((λ s x. x), (λ x. x), (λ x. x), λ x. x)).lawful in
     let start = c.args.drive.now in
-    leaves_by (s start) (s c.write_at-2.new.self) (Opens c.args.at c.args.slot.now) c.requires.synced (λ read told.
+    leaves_by (s start) (s c.write_at-2.new.self) (OpensSlot c.args.at c.args.slot.now) c.requires.synced (λ read told.
     let body = body_since c.args.at c.args.slot.now _ (s start) read (laws start) told c.requires.synced (is_body c.args.slot.now) c.requires.size (c.requires.shut.gate read told) (c.requires.shut.within read told)
     (s c.write_at.new.self) (laws c.write_at.new.self) c.write_at.ensures.crash c.write_at.ensures.only.time in
     let staged = c.in_ok-write_at.ensures.written read told in
@@ -46,7 +46,7 @@ returns-clause-any_moment g c =
     let s = g.D.Drive.state in
     let laws = (g.met.D.Drive g.world.𝓛 g.world.𝓜 g.world.𝓡 ((λ s x. x), (λ x. x), (λ x. x), λ x. x)).lawful in
     let start = c.args.drive.now in
-    leaves_by (s start) (s c.sync-2.new.self) (Opens c.args.at c.args.slot.now) c.requires.synced (λ read told.
+    leaves_by (s start) (s c.sync-2.new.self) (OpensSlot c.args.at c.args.slot.now) c.requires.synced (λ read told.
     let body = body_since c.args.at c.args.slot.now _ (s start) read (laws start) told c.requires.synced (is_body c.args.slot.now) c.requires.size (c.requires.shut.gate read told) (c.requires.shut.within read told)
     (s c.write_at.new.self) (laws c.write_at.new.self) c.write_at.ensures.crash c.write_at.ensures.only.time in
     let staged = c.in_ok-write_at.ensures.written read told in

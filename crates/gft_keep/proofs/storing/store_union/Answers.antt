@@ -4,7 +4,7 @@ use Rattle.gft_drive.specs.Words.{OnPart}
 use Rattle.gft_journal.specs.Words.{Becomes, BecomesOrNot}
 use Rattle.gft_keep.specs.Tearing.{TornOpen, open_keep}
 use Rattle.gft_keep.specs.Writing.{Fills, KeepsBytes}
-use Rattle.gft_keep.proofs.Blocks.{IsStored, TakesBlocks, Written, changes_over, is_changed_over, is_written, stage_stores, start_open, takes_blocks, writes}
+use Rattle.gft_keep.proofs.Blocks.{HasBlock, TakesBlocks, HasWritten, changes_over, is_changed_over, is_written, stage_stores, start_open, takes_blocks, writes}
 use Rattle.gft_keep.proofs.Kept.{exact_read, keep_there, unbroken_ready}
 use Rattle.gft_keep.proofs.Stages.{IsStart, stage_bytes, stage_none, stage_ranges, stage_since}
 use Rattle.gft_keep.proofs.storing.store_union.Goals as goal
@@ -35,7 +35,7 @@ rebase-requires-clause-stands g c κs within =
     let facts = c.requires.open.unbroken.facts in
     let stage0 = stage_none (TornOpen set block.start bytes) (TakesBlocks set) c.args.journal.now (s c.args.drive.now) (unbroken_ready keep c.requires.open.unbroken) (takes_blocks (s c.args.drive.now) set c.args.journal.now c.requires.open) (start_open set block bytes fills) in
     let since1 = stage_since (TornOpen set block.start bytes) (IsStart (TakesBlocks set)) (OnPart Bytes (KeepsBytes set)) c.args.journal.now (s c.args.drive.now) (s c.args.drive.now) (s c.write_missing.new.drive) (laws c.args.drive.now) (laws c.write_missing.new.drive) stage0 c.write_missing.ensures.any_moment c.write_missing.ensures.only.time (writes set block bytes fills) in
-    let stage1 = stage_bytes (TornOpen set block.start bytes) (IsStart (TakesBlocks set)) (Written set block bytes) (KeepsBytes set) (Fills set block bytes) c.args.journal.now (s c.args.drive.now) (s c.args.drive.now) (s c.write_missing.new.drive) (laws c.write_missing.new.drive) stage0 since1 c.in_ok-written.ensures.synced c.write_missing.ensures.any_moment c.in_ok-written.ensures.filled c.write_missing.ensures.only.time (is_written set block bytes) (λ read image written. written.sound) in
+    let stage1 = stage_bytes (TornOpen set block.start bytes) (IsStart (TakesBlocks set)) (HasWritten set block bytes) (KeepsBytes set) (Fills set block bytes) c.args.journal.now (s c.args.drive.now) (s c.args.drive.now) (s c.write_missing.new.drive) (laws c.write_missing.new.drive) stage0 since1 c.in_ok-written.ensures.synced c.write_missing.ensures.any_moment c.in_ok-written.ensures.filled c.write_missing.ensures.only.time (is_written set block bytes) (λ read image written. written.sound) in
     stage1.ready.stands
 
 pub returns-in_err-rebase-clause-torn : goal.returns-in_err-rebase-clause-torn
@@ -50,8 +50,8 @@ returns-in_err-rebase-clause-torn g c =
     let facts = c.requires.open.unbroken.facts in
     let stage0 = stage_none (TornOpen set block.start bytes) (TakesBlocks set) c.args.journal.now (s c.args.drive.now) (unbroken_ready keep c.requires.open.unbroken) (takes_blocks (s c.args.drive.now) set c.args.journal.now c.requires.open) (start_open set block bytes fills) in
     let since1 = stage_since (TornOpen set block.start bytes) (IsStart (TakesBlocks set)) (OnPart Bytes (KeepsBytes set)) c.args.journal.now (s c.args.drive.now) (s c.args.drive.now) (s c.write_missing.new.drive) (laws c.args.drive.now) (laws c.write_missing.new.drive) stage0 c.write_missing.ensures.any_moment c.write_missing.ensures.only.time (writes set block bytes fills) in
-    let stage1 = stage_bytes (TornOpen set block.start bytes) (IsStart (TakesBlocks set)) (Written set block bytes) (KeepsBytes set) (Fills set block bytes) c.args.journal.now (s c.args.drive.now) (s c.args.drive.now) (s c.write_missing.new.drive) (laws c.write_missing.new.drive) stage0 since1 c.in_ok-written.ensures.synced c.write_missing.ensures.any_moment c.in_ok-written.ensures.filled c.write_missing.ensures.only.time (is_written set block bytes) (λ read image written. written.sound) in
-    stage_since (TornOpen set block.start bytes) (Written set block bytes) (OnPart Ranges (BecomesOrNot c.args.union.now.ranges None)) c.args.journal.now (s c.args.drive.now) (s c.write_missing.new.drive) (s c.rebase.new.drive) (laws c.write_missing.new.drive) (laws c.rebase.new.drive) stage1 c.rebase.ensures.any_moment c.rebase.ensures.time (changes_over set block bytes fills facts.normal facts.few c.requires.some c.requires.fits c.args.union.now.ranges c.requires.union)
+    let stage1 = stage_bytes (TornOpen set block.start bytes) (IsStart (TakesBlocks set)) (HasWritten set block bytes) (KeepsBytes set) (Fills set block bytes) c.args.journal.now (s c.args.drive.now) (s c.args.drive.now) (s c.write_missing.new.drive) (laws c.write_missing.new.drive) stage0 since1 c.in_ok-written.ensures.synced c.write_missing.ensures.any_moment c.in_ok-written.ensures.filled c.write_missing.ensures.only.time (is_written set block bytes) (λ read image written. written.sound) in
+    stage_since (TornOpen set block.start bytes) (HasWritten set block bytes) (OnPart Ranges (BecomesOrNot c.args.union.now.ranges None)) c.args.journal.now (s c.args.drive.now) (s c.write_missing.new.drive) (s c.rebase.new.drive) (laws c.write_missing.new.drive) (laws c.rebase.new.drive) stage1 c.rebase.ensures.any_moment c.rebase.ensures.time (changes_over set block bytes fills facts.normal facts.few c.requires.some c.requires.fits c.args.union.now.ranges c.requires.union)
 
 pub returns-clause-torn : goal.returns-clause-torn
 returns-clause-torn g c =
@@ -65,8 +65,8 @@ returns-clause-torn g c =
     let facts = c.requires.open.unbroken.facts in
     let stage0 = stage_none (TornOpen set block.start bytes) (TakesBlocks set) c.args.journal.now (s c.args.drive.now) (unbroken_ready keep c.requires.open.unbroken) (takes_blocks (s c.args.drive.now) set c.args.journal.now c.requires.open) (start_open set block bytes fills) in
     let since1 = stage_since (TornOpen set block.start bytes) (IsStart (TakesBlocks set)) (OnPart Bytes (KeepsBytes set)) c.args.journal.now (s c.args.drive.now) (s c.args.drive.now) (s c.write_missing.new.drive) (laws c.args.drive.now) (laws c.write_missing.new.drive) stage0 c.write_missing.ensures.any_moment c.write_missing.ensures.only.time (writes set block bytes fills) in
-    let stage1 = stage_bytes (TornOpen set block.start bytes) (IsStart (TakesBlocks set)) (Written set block bytes) (KeepsBytes set) (Fills set block bytes) c.args.journal.now (s c.args.drive.now) (s c.args.drive.now) (s c.write_missing.new.drive) (laws c.write_missing.new.drive) stage0 since1 c.in_ok-written.ensures.synced c.write_missing.ensures.any_moment c.in_ok-written.ensures.filled c.write_missing.ensures.only.time (is_written set block bytes) (λ read image written. written.sound) in
-    stage_since (TornOpen set block.start bytes) (Written set block bytes) (OnPart Ranges (BecomesOrNot c.args.union.now.ranges None)) c.args.journal.now (s c.args.drive.now) (s c.write_missing.new.drive) (s c.rebase.new.drive) (laws c.write_missing.new.drive) (laws c.rebase.new.drive) stage1 c.rebase.ensures.any_moment c.rebase.ensures.time (changes_over set block bytes fills facts.normal facts.few c.requires.some c.requires.fits c.args.union.now.ranges c.requires.union)
+    let stage1 = stage_bytes (TornOpen set block.start bytes) (IsStart (TakesBlocks set)) (HasWritten set block bytes) (KeepsBytes set) (Fills set block bytes) c.args.journal.now (s c.args.drive.now) (s c.args.drive.now) (s c.write_missing.new.drive) (laws c.write_missing.new.drive) stage0 since1 c.in_ok-written.ensures.synced c.write_missing.ensures.any_moment c.in_ok-written.ensures.filled c.write_missing.ensures.only.time (is_written set block bytes) (λ read image written. written.sound) in
+    stage_since (TornOpen set block.start bytes) (HasWritten set block bytes) (OnPart Ranges (BecomesOrNot c.args.union.now.ranges None)) c.args.journal.now (s c.args.drive.now) (s c.write_missing.new.drive) (s c.rebase.new.drive) (laws c.write_missing.new.drive) (laws c.rebase.new.drive) stage1 c.rebase.ensures.any_moment c.rebase.ensures.time (changes_over set block bytes fills facts.normal facts.few c.requires.some c.requires.fits c.args.union.now.ranges c.requires.union)
 
 pub returns-clause-stored : goal.returns-clause-stored
 returns-clause-stored g c =
@@ -80,9 +80,9 @@ returns-clause-stored g c =
     let facts = c.requires.open.unbroken.facts in
     let stage0 = stage_none (TornOpen set block.start bytes) (TakesBlocks set) c.args.journal.now (s c.args.drive.now) (unbroken_ready keep c.requires.open.unbroken) (takes_blocks (s c.args.drive.now) set c.args.journal.now c.requires.open) (start_open set block bytes fills) in
     let since1 = stage_since (TornOpen set block.start bytes) (IsStart (TakesBlocks set)) (OnPart Bytes (KeepsBytes set)) c.args.journal.now (s c.args.drive.now) (s c.args.drive.now) (s c.write_missing.new.drive) (laws c.args.drive.now) (laws c.write_missing.new.drive) stage0 c.write_missing.ensures.any_moment c.write_missing.ensures.only.time (writes set block bytes fills) in
-    let stage1 = stage_bytes (TornOpen set block.start bytes) (IsStart (TakesBlocks set)) (Written set block bytes) (KeepsBytes set) (Fills set block bytes) c.args.journal.now (s c.args.drive.now) (s c.args.drive.now) (s c.write_missing.new.drive) (laws c.write_missing.new.drive) stage0 since1 c.in_ok-written.ensures.synced c.write_missing.ensures.any_moment c.in_ok-written.ensures.filled c.write_missing.ensures.only.time (is_written set block bytes) (λ read image written. written.sound) in
-    let since2 = stage_since (TornOpen set block.start bytes) (Written set block bytes) (OnPart Ranges (BecomesOrNot c.args.union.now.ranges None)) c.args.journal.now (s c.args.drive.now) (s c.write_missing.new.drive) (s c.rebase.new.drive) (laws c.write_missing.new.drive) (laws c.rebase.new.drive) stage1 c.rebase.ensures.any_moment c.rebase.ensures.time (changes_over set block bytes fills facts.normal facts.few c.requires.some c.requires.fits c.args.union.now.ranges c.requires.union) in
-    let stage2 = stage_ranges (TornOpen set block.start bytes) (Written set block bytes) (IsStored set block bytes) (BecomesOrNot c.args.union.now.ranges None) (Becomes c.args.union.now.ranges None) c.args.journal.now c.rebase.new.self (s c.args.drive.now) (s c.write_missing.new.drive) (s c.rebase.new.drive) (laws c.rebase.new.drive) stage1 since2 c.in_ok-rebase.ensures.stands c.rebase.ensures.any_moment c.in_ok-rebase.ensures.based c.rebase.ensures.time (is_changed_over set block bytes fills facts.normal facts.few c.requires.some c.requires.fits c.args.union.now.ranges c.requires.union) (λ read image is. is.torn.torn.sound) in
+    let stage1 = stage_bytes (TornOpen set block.start bytes) (IsStart (TakesBlocks set)) (HasWritten set block bytes) (KeepsBytes set) (Fills set block bytes) c.args.journal.now (s c.args.drive.now) (s c.args.drive.now) (s c.write_missing.new.drive) (laws c.write_missing.new.drive) stage0 since1 c.in_ok-written.ensures.synced c.write_missing.ensures.any_moment c.in_ok-written.ensures.filled c.write_missing.ensures.only.time (is_written set block bytes) (λ read image written. written.sound) in
+    let since2 = stage_since (TornOpen set block.start bytes) (HasWritten set block bytes) (OnPart Ranges (BecomesOrNot c.args.union.now.ranges None)) c.args.journal.now (s c.args.drive.now) (s c.write_missing.new.drive) (s c.rebase.new.drive) (laws c.write_missing.new.drive) (laws c.rebase.new.drive) stage1 c.rebase.ensures.any_moment c.rebase.ensures.time (changes_over set block bytes fills facts.normal facts.few c.requires.some c.requires.fits c.args.union.now.ranges c.requires.union) in
+    let stage2 = stage_ranges (TornOpen set block.start bytes) (HasWritten set block bytes) (HasBlock set block bytes) (BecomesOrNot c.args.union.now.ranges None) (Becomes c.args.union.now.ranges None) c.args.journal.now c.rebase.new.self (s c.args.drive.now) (s c.write_missing.new.drive) (s c.rebase.new.drive) (laws c.rebase.new.drive) stage1 since2 c.in_ok-rebase.ensures.stands c.rebase.ensures.any_moment c.in_ok-rebase.ensures.based c.rebase.ensures.time (is_changed_over set block bytes fills facts.normal facts.few c.requires.some c.requires.fits c.args.union.now.ranges c.requires.union) (λ read image is. is.torn.torn.sound) in
     stage_stores set block bytes c.in_ok-written.written c.rebase.new.self (s c.args.drive.now) (s c.rebase.new.drive) fills (laws c.rebase.new.drive) since2.time (λ read told. (exact_read keep c.requires.open.unbroken read told).ranges) stage2 c.in_ok-written.ensures.count
 
 pub write_missing-requires-clause-there : goal.write_missing-requires-clause-there
