@@ -5,7 +5,7 @@ use Rattle.std.proofs.lemmas.Bool.Decides.{eqb_tells}
 use Rattle.std.specs.Prelude.{nat_eq, nat_lt}
 use Rattle.gft_eod.specs.declared.TheConstants.{MAX_EODS}
 use Rattle.gft_eblock.specs.Words.{Arrival, Eof, Eod, totals, eods}
-use Rattle.gridftpd.specs.Totals.{first_of, AllAre, AreAgreed}
+use Rattle.gft_outside.specs.Words.{first_of, AllAre, AreAgreed}
 use Rattle.gridftpd.proofs.DoneLemmas.{SaysDone}
 use Rattle.gft_eod.specs.declared.EodError.{EodError}
 use Rattle.gft_eod.specs.declared.EodError.TheVariants.{BadTotal, TwoTotals}

@@ -5,12 +5,13 @@ use Rattle.gft_eod.specs.declared.TheConstants.{MAX_EODS}
 use Rattle.gft_eblock.specs.Words.{Arrival, At, Eof, Eod, Bad, Arrives, totals, eods}
 use Rattle.gft_core.specs.declared.CoreEvent.{CoreEvent}
 use Rattle.gft_core.specs.declared.CoreEvent.TheVariants as event
-use Rattle.gft_core.specs.Words.{first_some, since, begun, total, AllPass, Done}
+use Rattle.gft_core.specs.Words.{first_some, since, begun, total, AllPermit, Done}
 use Rattle.gft_core.specs.Words as core
 use Rattle.gft_core.proofs.Lemmas.{first_some-none, first_some-assoc}
-use Rattle.gridftpd.specs.Events.{event_of, events_after, events_of}
-use Rattle.gridftpd.specs.Cause.{HasNoBad}
-use Rattle.gridftpd.specs.Totals.{first_of, AllAre}
+use Rattle.gridftpd.specs.Events.{events_of}
+use Rattle.gft_outside.specs.Words.{arrival_event, arrival_events}
+use Rattle.gft_outside.specs.Words.{HasNoBad}
+use Rattle.gft_outside.specs.Words.{first_of, AllAre}
 use Rattle.gridftpd.proofs.EventLemmas.{arrives_kept, kept_arrives}
 
 -- what a transfer that is done says of its arrivals
@@ -22,44 +23,44 @@ pub record SaysDone (list : List Arrival) (end : ℕ) : Type 0 where
   pub met : eods list ≡ total
   pub whole : (x : ℕ) → Arrives list x ↔ (x < end)
 
-begun-after : (before : List CoreEvent) (list : List Arrival) → begun (events_after before list) ≡ begun before
+begun-after : (before : List CoreEvent) (list : List Arrival) → begun (arrival_events 0 before list) ≡ begun before
 begun-after before [] = refl
-begun-after before (At offset value ∷ list) = begun-after (event_of (At offset value) ∷ before) list
-begun-after before (Eof n ∷ list) = begun-after (event_of (Eof n) ∷ before) list
-begun-after before (Eod ∷ list) = begun-after (event_of Eod ∷ before) list
-begun-after before (Bad refusal ∷ list) = begun-after (event_of (Bad refusal) ∷ before) list
+begun-after before (At offset value ∷ list) = begun-after (arrival_event 0 (At offset value) ∷ before) list
+begun-after before (Eof n ∷ list) = begun-after (arrival_event 0 (Eof n) ∷ before) list
+begun-after before (Eod ∷ list) = begun-after (arrival_event 0 Eod ∷ before) list
+begun-after before (Bad refusal ∷ list) = begun-after (arrival_event 0 (Bad refusal) ∷ before) list
 
 -- what announces no total
 still_total : (before : List CoreEvent) (rest : Option ℕ) → first_some (first_some (total (since before)) None) rest ≡ first_some (total (since before)) rest
 still_total before rest = ap (λ o. first_some o rest) (first_some-none (total (since before)))
 
-total-after : (before : List CoreEvent) (list : List Arrival) → total (since (events_after before list)) ≡ first_some (total (since before)) (first_of (totals list))
+total-after : (before : List CoreEvent) (list : List Arrival) → total (since (arrival_events 0 before list)) ≡ first_some (total (since before)) (first_of (totals list))
 total-after before [] = sym (first_some-none (total (since before)))
-total-after before (At offset value ∷ list) = total-after (event_of (At offset value) ∷ before) list ∙ still_total before (first_of (totals list))
-total-after before (Eof n ∷ list) = total-after (event_of (Eof n) ∷ before) list ∙ first_some-assoc (total (since before)) (Some n) (first_of (totals list))
-total-after before (Eod ∷ list) = total-after (event_of Eod ∷ before) list ∙ still_total before (first_of (totals list))
-total-after before (Bad refusal ∷ list) = total-after (event_of (Bad refusal) ∷ before) list ∙ still_total before (first_of (totals list))
+total-after before (At offset value ∷ list) = total-after (arrival_event 0 (At offset value) ∷ before) list ∙ still_total before (first_of (totals list))
+total-after before (Eof n ∷ list) = total-after (arrival_event 0 (Eof n) ∷ before) list ∙ first_some-assoc (total (since before)) (Some n) (first_of (totals list))
+total-after before (Eod ∷ list) = total-after (arrival_event 0 Eod ∷ before) list ∙ still_total before (first_of (totals list))
+total-after before (Bad refusal ∷ list) = total-after (arrival_event 0 (Bad refusal) ∷ before) list ∙ still_total before (first_of (totals list))
 
-eods-after : (before : List CoreEvent) (list : List Arrival) → core.eod_count (since (events_after before list)) ≡ core.eod_count (since before) + eods list
+eods-after : (before : List CoreEvent) (list : List Arrival) → core.eod_count (since (arrival_events 0 before list)) ≡ core.eod_count (since before) + eods list
 eods-after before [] = omega arith
-eods-after before (At offset value ∷ list) = omega (arith, eods-after (event_of (At offset value) ∷ before) list)
-eods-after before (Eof n ∷ list) = omega (arith, eods-after (event_of (Eof n) ∷ before) list)
-eods-after before (Eod ∷ list) = omega (arith, eods-after (event_of Eod ∷ before) list)
-eods-after before (Bad refusal ∷ list) = omega (arith, eods-after (event_of (Bad refusal) ∷ before) list)
+eods-after before (At offset value ∷ list) = omega (arith, eods-after (arrival_event 0 (At offset value) ∷ before) list)
+eods-after before (Eof n ∷ list) = omega (arith, eods-after (arrival_event 0 (Eof n) ∷ before) list)
+eods-after before (Eod ∷ list) = omega (arith, eods-after (arrival_event 0 Eod ∷ before) list)
+eods-after before (Bad refusal ∷ list) = omega (arith, eods-after (arrival_event 0 (Bad refusal) ∷ before) list)
 
-pass-after : (n : ℕ) (before : List CoreEvent) (list : List Arrival) → AllPass n (since before) → AllAre n (totals list) → HasNoBad list → AllPass n (since (events_after before list))
+pass-after : (n : ℕ) (before : List CoreEvent) (list : List Arrival) → AllPermit n (since before) → AllAre n (totals list) → HasNoBad list → AllPermit n (since (arrival_events 0 before list))
 pass-after n before [] pass all sound = pass
-pass-after n before (At offset value ∷ list) pass all sound = pass-after n (event_of (At offset value) ∷ before) list (pass, tt) all sound
-pass-after n before (Eof m ∷ list) pass all sound = pass-after n (event_of (Eof m) ∷ before) list (pass, all.0) all.1 sound
-pass-after n before (Eod ∷ list) pass all sound = pass-after n (event_of Eod ∷ before) list (pass, tt) all sound
+pass-after n before (At offset value ∷ list) pass all sound = pass-after n (arrival_event 0 (At offset value) ∷ before) list (pass, tt) all sound
+pass-after n before (Eof m ∷ list) pass all sound = pass-after n (arrival_event 0 (Eof m) ∷ before) list (pass, all.0) all.1 sound
+pass-after n before (Eod ∷ list) pass all sound = pass-after n (arrival_event 0 Eod ∷ before) list (pass, tt) all sound
 pass-after n before (Bad refusal ∷ list) pass all sound = absurd sound
 
-after-pass : (n : ℕ) (before : List CoreEvent) (list : List Arrival) → AllPass n (since (events_after before list)) → AllPass n (since before) × AllAre n (totals list)
+after-pass : (n : ℕ) (before : List CoreEvent) (list : List Arrival) → AllPermit n (since (arrival_events 0 before list)) → AllPermit n (since before) × AllAre n (totals list)
 after-pass n before [] pass = (pass, tt)
-after-pass n before (At offset value ∷ list) pass = let rest = after-pass n (event_of (At offset value) ∷ before) list pass in (rest.0.0, rest.1)
-after-pass n before (Eof m ∷ list) pass = let rest = after-pass n (event_of (Eof m) ∷ before) list pass in (rest.0.0, (rest.0.1, rest.1))
-after-pass n before (Eod ∷ list) pass = let rest = after-pass n (event_of Eod ∷ before) list pass in (rest.0.0, rest.1)
-after-pass n before (Bad refusal ∷ list) pass = let rest = after-pass n (event_of (Bad refusal) ∷ before) list pass in absurd rest.0.1
+after-pass n before (At offset value ∷ list) pass = let rest = after-pass n (arrival_event 0 (At offset value) ∷ before) list pass in (rest.0.0, rest.1)
+after-pass n before (Eof m ∷ list) pass = let rest = after-pass n (arrival_event 0 (Eof m) ∷ before) list pass in (rest.0.0, (rest.0.1, rest.1))
+after-pass n before (Eod ∷ list) pass = let rest = after-pass n (arrival_event 0 Eod ∷ before) list pass in (rest.0.0, rest.1)
+after-pass n before (Bad refusal ∷ list) pass = let rest = after-pass n (arrival_event 0 (Bad refusal) ∷ before) list pass in absurd rest.0.1
 
 pub done_of : (list : List Arrival) (end : ℕ) → HasNoBad list → SaysDone list end → Done (events_of list)
 done_of list end sound says =

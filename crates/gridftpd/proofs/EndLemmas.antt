@@ -24,14 +24,15 @@ use Rattle.gridftpd.proofs.ArrivalLemmas.{totals-append}
 use Rattle.gridftpd.proofs.RangeLemmas.{HasNoBad-append, HasNoBad-data_at, agreed_same, behind_is, few_kept, few_not_full, few_same, totals-data_behind}
 use Rattle.gridftpd.proofs.DoneLemmas.{done_of}
 use Rattle.gridftpd.specs.declared.intake.Intake.{Intake}
-use Rattle.gridftpd.specs.Cause.{told_by, IsLost, HasHole, HasRangesAtMost, HasNoBad, IsFirstMissing, IsMiscounted, IsSoundStream, MeetsNone, NeedsMoreRanges, EndsBad}
+use Rattle.gridftpd.specs.Cause.{told_by, IsLost, HasHole, HasRangesAtMost, IsFirstMissing, IsMiscounted, IsSoundStream, MeetsNone, NeedsMoreRanges, EndsBad}
 use Rattle.gridftpd.specs.declared.outcome.Outcome.{Outcome}
 use Rattle.gridftpd.specs.Drain.{DriveIsBlamed, IsTaken}
 use Rattle.gridftpd.specs.Images.{HoldsAllButLast, HoldsArrived, IsStored, OfEach}
 use Rattle.gridftpd.specs.declared.reading.TheConstants.{READ_LEN}
 use Rattle.gridftpd.proofs.HeldLemmas.{but_last, each_holds, each_told, finished_file, finished_holds, some_stored}
 use Rattle.gridftpd.specs.Events.{events_of}
-use Rattle.gridftpd.specs.Totals.{first_of, AreAgreed}
+use Rattle.gft_outside.specs.Words.{HasNoBad}
+use Rattle.gft_outside.specs.Words.{first_of, AreAgreed}
 use Rattle.gridftpd.specs.Follows.{Follows}
 
 -- ---- the bytes that were taken

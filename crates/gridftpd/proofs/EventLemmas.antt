@@ -8,37 +8,35 @@ use Rattle.gft_core.specs.declared.CoreEvent.{CoreEvent}
 use Rattle.gft_core.specs.declared.CoreEvent.TheVariants as event
 use Rattle.gft_core.specs.Words.{first_some, byte_at, answered, kept}
 use Rattle.gft_core.proofs.Lemmas.{first_some-none, first_some-assoc, first_some_front, first_some_back, byte_at-here, byte_at-later}
-use Rattle.gridftpd.specs.Events.{event_of, events_after, events_of}
+use Rattle.gridftpd.specs.Events.{events_of}
+use Rattle.gft_outside.specs.Words.{arrival_event, arrival_events}
+use Rattle.gft_outside.proofs.Lemmas.{arrival_events-append}
 
-kept-event : (before : List CoreEvent) (arrival : Arrival) (x : ℕ) → kept (event_of arrival ∷ before) x ≡ first_some (kept before x) (answered (event_of arrival) x)
+kept-event : (before : List CoreEvent) (arrival : Arrival) (x : ℕ) → kept (arrival_event 0 arrival ∷ before) x ≡ first_some (kept before x) (answered (arrival_event 0 arrival) x)
 kept-event before (At offset value) x = refl
 kept-event before (Eof total) x = refl
 kept-event before Eod x = refl
 kept-event before (Bad refusal) x = refl
 
-pub kept-after : (before : List CoreEvent) (list : List Arrival) (x : ℕ) → kept (events_after before list) x ≡ first_some (kept before x) (kept (events_of list) x)
+pub kept-after : (before : List CoreEvent) (list : List Arrival) (x : ℕ) → kept (arrival_events 0 before list) x ≡ first_some (kept before x) (kept (events_of list) x)
 kept-after before [] x = sym (first_some-none (kept before x))
 kept-after before (arrival ∷ later) x =
     let fresh : List CoreEvent = event.Fresh ∷ [] in
     let rest = kept (events_of later) x in
-    let alone : kept (events_after (event_of arrival ∷ fresh) later) x ≡ first_some (answered (event_of arrival) x) rest
-    = kept-after (event_of arrival ∷ fresh) later x ∙ ap (λ o. first_some o rest) (kept-event fresh arrival x) in
-    kept-after (event_of arrival ∷ before) later x
+    let alone : kept (arrival_events 0 (arrival_event 0 arrival ∷ fresh) later) x ≡ first_some (answered (arrival_event 0 arrival) x) rest
+    = kept-after (arrival_event 0 arrival ∷ fresh) later x ∙ ap (λ o. first_some o rest) (kept-event fresh arrival x) in
+    kept-after (arrival_event 0 arrival ∷ before) later x
     ∙ ap (λ o. first_some o rest) (kept-event before arrival x)
-    ∙ first_some-assoc (kept before x) (answered (event_of arrival) x) rest
+    ∙ first_some-assoc (kept before x) (answered (arrival_event 0 arrival) x) rest
     ∙ ap (first_some (kept before x)) (sym alone)
 
-kept-cons : (arrival : Arrival) (later : List Arrival) (x : ℕ) → kept (events_of (arrival ∷ later)) x ≡ first_some (answered (event_of arrival) x) (kept (events_of later) x)
+kept-cons : (arrival : Arrival) (later : List Arrival) (x : ℕ) → kept (events_of (arrival ∷ later)) x ≡ first_some (answered (arrival_event 0 arrival) x) (kept (events_of later) x)
 kept-cons arrival later x =
     let fresh : List CoreEvent = event.Fresh ∷ [] in
-    kept-after (event_of arrival ∷ fresh) later x ∙ ap (λ o. first_some o (kept (events_of later) x)) (kept-event fresh arrival x)
-
-pub events_after-append : (before : List CoreEvent) (a b : List Arrival) → events_after before (a ++ b) ≡ events_after (events_after before a) b
-events_after-append before [] b = refl
-events_after-append before (arrival ∷ a) b = events_after-append (event_of arrival ∷ before) a b
+    kept-after (arrival_event 0 arrival ∷ fresh) later x ∙ ap (λ o. first_some o (kept (events_of later) x)) (kept-event fresh arrival x)
 
 kept-append : (a b : List Arrival) (x : ℕ) → kept (events_of (a ++ b)) x ≡ first_some (kept (events_of a) x) (kept (events_of b) x)
-kept-append a b x = ap (λ (events : List CoreEvent). kept events x) (events_after-append (event.Fresh ∷ []) a b) ∙ kept-after (events_of a) b x
+kept-append a b x = ap (λ (events : List CoreEvent). kept events x) (arrival_events-append 0 (event.Fresh ∷ []) a b) ∙ kept-after (events_of a) b x
 
 -- ---- where a byte arrives, one is kept
 

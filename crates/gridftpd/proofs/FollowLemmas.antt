@@ -19,8 +19,9 @@ use Rattle.gft_eblock.proofs.Lemmas.{IsUnfinished-append, IsUnfinished-data_at, 
 use Rattle.gft_eod.specs.Words.{eof_refusal}
 use Rattle.gridftpd.proofs.CountLemmas.{Counts-same, Counts-eof, Counts-eod}
 use Rattle.gridftpd.specs.declared.intake.Intake.{Intake}
-use Rattle.gridftpd.specs.Cause.{EndsNothing, HasNoBad}
-use Rattle.gridftpd.specs.Totals.{AreAgreed}
+use Rattle.gridftpd.specs.Cause.{EndsNothing}
+use Rattle.gft_outside.specs.Words.{HasNoBad}
+use Rattle.gft_outside.specs.Words.{AreAgreed}
 use Rattle.gridftpd.specs.Follows.{Books, Counts, Follows, HasKeptIn}
 use Rattle.gridftpd.proofs.RangeLemmas.{HasNoBad-append, HasNoBad-data_at, agreed_same, few_early}
 use Rattle.gft_drive.specs.declared.TheConstants.{MAX_RANGES}

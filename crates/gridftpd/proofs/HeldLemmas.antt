@@ -19,7 +19,8 @@ use Rattle.gridftpd.specs.Follows.{Follows, HasKeptIn}
 use Rattle.gridftpd.specs.Images.{HoldsAllButLast, HoldsArrived, IsWholeFile, OfEach}
 use Rattle.gridftpd.proofs.ArrivalLemmas.{Arrives-append, Arrives-data_at}
 use Rattle.gridftpd.proofs.EventLemmas.{kept_arrives, kept-first, kept-later, kept-data_at, none_kept}
-use Rattle.gridftpd.proofs.KeepLemmas.{CameBy, came_by, exact_of, exact_read, held_exact, of_each, sound_of}
+use Rattle.gft_keep.proofs.Lemmas.{CameBy, came_by, exact_of, exact_read, held_exact, sound_of}
+use Rattle.gridftpd.proofs.KeepLemmas.{of_each}
 
 some_same : (a b : Image) (o : Option Image) → o ≡ Some a → o ≡ Some b → a ≡ b
 some_same a b o one two = let same : Some a ≡ Some b = sym one ∙ two in cc

@@ -11,8 +11,9 @@ use Rattle.gft_core.proofs.Lemmas.{honest, sent_where_booked, byte_at-here, byte
 use Rattle.gft_drive.specs.Words.{DriveState}
 use Rattle.gft_eblock.proofs.Lemmas.{arrivals-ended}
 use Rattle.gridftpd.specs.Cause.{told_by}
-use Rattle.gridftpd.specs.Events.{event_of, events_after, events_of, IsKept}
-use Rattle.gridftpd.specs.Drain.{IsTaken, IsTruthful, IsHonest, IsFile}
+use Rattle.gridftpd.specs.Events.{events_of, IsKept}
+use Rattle.gft_outside.specs.Words.{IsTruthful, arrival_event, arrival_events}
+use Rattle.gridftpd.specs.Drain.{IsTaken, IsHonest, IsFile}
 use Rattle.gridftpd.specs.Images.{IsStored, OfEach}
 use Rattle.gridftpd.proofs.DoneLemmas.{says_done}
 use Rattle.gridftpd.proofs.EventLemmas.{arrives_kept}
@@ -43,21 +44,21 @@ nothing_carried : (source : List ℕ) → CarriesSource source (λ x. None)
 nothing_carried source x v has = absurd (none-some v has)
 
 -- truthful arrivals carry the source's bytes
-carry-after : (source : List ℕ) (before : List CoreEvent) (list : List Arrival) → AllCarry source (generation before) → IsTruthful source list → AllCarry source (generation (events_after before list))
+carry-after : (source : List ℕ) (before : List CoreEvent) (list : List Arrival) → AllCarry source (generation before) → IsTruthful source list → AllCarry source (generation (arrival_events 0 before list))
 carry-after source before [] all truthful = all
 carry-after source before (At offset value ∷ list) all truthful =
-    carry-after source (event_of (At offset value) ∷ before) list (all, block_carries source offset value truthful.0) truthful.1
-carry-after source before (Eof total ∷ list) all truthful = carry-after source (event_of (Eof total) ∷ before) list (all, nothing_carried source) truthful
-carry-after source before (Eod ∷ list) all truthful = carry-after source (event_of Eod ∷ before) list (all, nothing_carried source) truthful
-carry-after source before (Bad refusal ∷ list) all truthful = carry-after source (event_of (Bad refusal) ∷ before) list (all, nothing_carried source) truthful
+    carry-after source (arrival_event 0 (At offset value) ∷ before) list (all, block_carries source offset value truthful.0) truthful.1
+carry-after source before (Eof total ∷ list) all truthful = carry-after source (arrival_event 0 (Eof total) ∷ before) list (all, nothing_carried source) truthful
+carry-after source before (Eod ∷ list) all truthful = carry-after source (arrival_event 0 Eod ∷ before) list (all, nothing_carried source) truthful
+carry-after source before (Bad refusal ∷ list) all truthful = carry-after source (arrival_event 0 (Bad refusal) ∷ before) list (all, nothing_carried source) truthful
 
 -- arrivals are no crashes
-no_crash-after : (before : List CoreEvent) (list : List Arrival) → HasNoCrash (generation before) → HasNoCrash (generation (events_after before list))
+no_crash-after : (before : List CoreEvent) (list : List Arrival) → HasNoCrash (generation before) → HasNoCrash (generation (arrival_events 0 before list))
 no_crash-after before [] none = none
-no_crash-after before (At offset value ∷ list) none = no_crash-after (event_of (At offset value) ∷ before) list none
-no_crash-after before (Eof total ∷ list) none = no_crash-after (event_of (Eof total) ∷ before) list none
-no_crash-after before (Eod ∷ list) none = no_crash-after (event_of Eod ∷ before) list none
-no_crash-after before (Bad refusal ∷ list) none = no_crash-after (event_of (Bad refusal) ∷ before) list none
+no_crash-after before (At offset value ∷ list) none = no_crash-after (arrival_event 0 (At offset value) ∷ before) list none
+no_crash-after before (Eof total ∷ list) none = no_crash-after (arrival_event 0 (Eof total) ∷ before) list none
+no_crash-after before (Eod ∷ list) none = no_crash-after (arrival_event 0 Eod ∷ before) list none
+no_crash-after before (Bad refusal ∷ list) none = no_crash-after (arrival_event 0 (Bad refusal) ∷ before) list none
 
 -- lists with the same element at each place
 same_gets : (a b : List ℕ) → ((x : ℕ) → slice_get a x ≡ slice_get b x) → a ≡ b

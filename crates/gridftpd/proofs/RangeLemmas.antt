@@ -7,8 +7,9 @@ use Rattle.gft_range.specs.declared.Range.{Range}
 use Rattle.gft_range.specs.Words.{InRange, HasOffset, IsNormal}
 use Rattle.gft_range.proofs.Lemmas.{normal_few}
 use Rattle.gft_keep.specs.Words.{IsFull, block_of}
-use Rattle.gridftpd.specs.Cause.{HasRangesAtMost, HasNoBad}
-use Rattle.gridftpd.specs.Totals.{AreAgreed}
+use Rattle.gridftpd.specs.Cause.{HasRangesAtMost}
+use Rattle.gft_outside.specs.Words.{HasNoBad}
+use Rattle.gft_outside.specs.Words.{AreAgreed}
 use Rattle.gridftpd.specs.Follows.{Books}
 use Rattle.gridftpd.proofs.ArrivalLemmas.{Arrives-append, Arrives-data_at, totals-append, totals-data_at}
 

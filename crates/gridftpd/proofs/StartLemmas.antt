@@ -13,7 +13,7 @@ use Rattle.gridftpd.specs.Drain.{DriveIsBlamed, InputIsBlamed, IsTaken}
 use Rattle.gridftpd.specs.Images.{FindsDamage, HoldsAtEnd, HoldsTaken, IsStored}
 use Rattle.gridftpd.specs.Turn.{IsEndsOutcome, IsRunsOutcome, IsTurnsOutcome, outcome_of}
 use Rattle.gridftpd.proofs.EndLemmas.{nothing_met, nothing_taken}
-use Rattle.gridftpd.proofs.KeepLemmas.{exact_read}
+use Rattle.gft_keep.proofs.Lemmas.{exact_read}
 
 reopens_same : (image : Image) → Reopens image image
 reopens_same image = record {

@@ -29,29 +29,29 @@ stands_for outcome.DriveFailed = record { complete = λ zero. absurd (cc); refus
 stands_for outcome.OutOfMemory = record { complete = λ zero. absurd (cc); refused = λ one. absurd (cc); not_usage = λ two. cc }
 
 -- the status that was told, and its line for a refusal
-pub record Told (ending : Outcome) (number : ℕ) (before after : Option (List ℕ)) : Type 0 where
+pub record IsLineOf (ending : Outcome) (number : ℕ) (before after : Option (List ℕ)) : Type 0 where
   pub complete : number ≡ 0 → ending ≡ outcome.Complete
   pub refused : number ≡ 1 → IsRefusal ending × Appends before after (text_of ending)
   pub not_usage : number ≢ 2
 
-told_so : (ending : Outcome) (own : Status) (before after : Option (List ℕ)) (faults risen : ℕ) → IsTold ending own before after faults risen → Told ending (number_of own) before after
+told_so : (ending : Outcome) (own : Status) (before after : Option (List ℕ)) (faults risen : ℕ) → IsTold ending own before after faults risen → IsLineOf ending (number_of own) before after
 told_so ending own before after faults risen (inl (inl put)) =
     let stands = stands_for ending in
-    subst (λ (s : Status). Told ending (number_of s) before after) (sym put.0)
+    subst (λ (s : Status). IsLineOf ending (number_of s) before after) (sym put.0)
     (record { complete = stands.complete; refused = λ one. (stands.refused one, put.1); not_usage = stands.not_usage })
 told_so ending own before after faults risen (inl (inr failed)) =
-    subst (λ (s : Status). Told ending (number_of s) before after) (sym failed.0)
+    subst (λ (s : Status). IsLineOf ending (number_of s) before after) (sym failed.0)
     (record { complete = λ zero. absurd (cc); refused = λ one. absurd (cc); not_usage = λ two. cc })
 told_so ending own before after faults risen (inr (made, inl put)) =
-    subst (λ (s : Status). Told ending (number_of s) before after) (sym put.0)
+    subst (λ (s : Status). IsLineOf ending (number_of s) before after) (sym put.0)
     (record { complete = λ zero. absurd (cc); refused = λ one. absurd (cc); not_usage = λ two. cc })
 told_so ending own before after faults risen (inr (made, inr failed)) =
-    subst (λ (s : Status). Told ending (number_of s) before after) (sym failed.0)
+    subst (λ (s : Status). IsLineOf ending (number_of s) before after) (sym failed.0)
     (record { complete = λ zero. absurd (cc); refused = λ one. absurd (cc); not_usage = λ two. cc })
 
-pub told_of : (ending : Outcome) (own : Status) (before after : Option (List ℕ)) (faults risen number : ℕ) → IsTold ending own before after faults risen → number ≡ number_of own → Told ending number before after
+pub told_of : (ending : Outcome) (own : Status) (before after : Option (List ℕ)) (faults risen number : ℕ) → IsTold ending own before after faults risen → number ≡ number_of own → IsLineOf ending number before after
 told_of ending own before after faults risen number told is =
-    subst (λ (n : ℕ). Told ending n before after) (sym is) (told_so ending own before after faults risen told)
+    subst (λ (n : ℕ). IsLineOf ending n before after) (sym is) (told_so ending own before after faults risen told)
 
 -- ---- the counts
 

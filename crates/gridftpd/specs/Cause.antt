@@ -2,7 +2,7 @@
 use Rattle.std.specs.Prelude.{◌≡◌, ◌≢◌, ℕ, ◌+◌, ◌<◌, ◌≤◌, ◌⊎◌, ◌↔◌, List, [], ◌∷◌, ◌++◌, length, Option, None}
 use Rattle.std.specs.Prelude.{Some, IsSome}
 use Rattle.std.specs.Io.KnownBytes.{IsAtEnd}
-use Rattle.gft_eblock.specs.Words.{Arrival, Refusal, At, Eof, Eod, Bad, Arrives, totals, eods, arrivals}
+use Rattle.gft_eblock.specs.Words.{Arrival, Refusal, Bad, Arrives, totals, eods, arrivals}
 use Rattle.gft_eblock.specs.Words.{IsUnfinished, data_at, refusal_of}
 use Rattle.gft_core.specs.Words.{Done}
 use Rattle.gft_range.specs.declared.Range.{Range}
@@ -13,7 +13,7 @@ use Rattle.gft_eod.specs.Words.{eof_refusal}
 use Rattle.gft_drive.specs.declared.TheConstants.{MAX_RANGES}
 use Rattle.gft_keep.specs.Words.{IsFull, block_of}
 use Rattle.gridftpd.specs.Events.{events_of}
-use Rattle.gridftpd.specs.Totals.{first_of, AreAgreed}
+use Rattle.gft_outside.specs.Words.{AreAgreed, HasNoBad, first_of}
 use Rattle.gridftpd.specs.declared.outcome.Outcome.{Outcome}
 use Rattle.gridftpd.specs.declared.outcome.Outcome.TheVariants as outcome
 
@@ -43,14 +43,6 @@ pub record HasHole (stream : List ℕ) (left : Option (List ℕ)) (total : Optio
   pub counted : number ≡ eods (told_by stream)
   pub first_missing : IsFirstMissing (told_by stream) missing
   pub why : (total ≢ Some number) ⊎ IsSome missing
-
--- no bad header is among the arrivals
-abbrev pub HasNoBad : List Arrival → Type 0
-HasNoBad [] = Unit {0}
-HasNoBad (At offset value ∷ list) = HasNoBad list
-HasNoBad (Eof total ∷ list) = HasNoBad list
-HasNoBad (Eod ∷ list) = HasNoBad list
-HasNoBad (Bad refusal ∷ list) = ⊥
 
 -- the normal list of the offsets at which bytes arrive has at most so many ranges
 abbrev pub HasRangesAtMost : ℕ → List Arrival → Type 0

@@ -1,9 +1,10 @@
 -- What `gridftpd drain` promises.
-use Rattle.std.specs.Prelude.{◌≡◌, ℕ, ◌<◌, ◌≤◌, ◌⊎◌, List, [], ◌∷◌, length, take, slice_get, Option, Some}
+use Rattle.std.specs.Prelude.{◌≡◌, ℕ, ◌<◌, ◌≤◌, ◌⊎◌, List, [], ◌∷◌, length, take, Option, Some}
 use Rattle.std.specs.Io.KnownBytes.{Consumes, Appends}
 use Rattle.gft_base.specs.Words.{Rose}
-use Rattle.gft_eblock.specs.Words.{Arrival, At, Eof, Eod, Bad, Arrives, eods, HasEnded}
+use Rattle.gft_eblock.specs.Words.{Arrival, Arrives, eods, HasEnded}
 use Rattle.gft_core.specs.Words.{Done}
+use Rattle.gft_outside.specs.Words.{IsTruthful}
 use Rattle.gft_drive.specs.Words.{DriveState, Goes, Image}
 use Rattle.gft_drive.specs.declared.TheConstants.{MAX_RANGES}
 use Rattle.gft_eblock.specs.declared.TheConstants.{MAX_BYTES}
@@ -103,14 +104,6 @@ IsRefusal (outcome.CountRefused error) = Unit {0}
 IsRefusal outcome.TooLong = Unit {0}
 IsRefusal (outcome.RangesFull kept) = Unit {0}
 IsRefusal other = ⊥
-
--- each byte that arrives is the source's
-abbrev pub IsTruthful : List ℕ → List Arrival → Type 0
-IsTruthful source [] = Unit {0}
-IsTruthful source (At offset value ∷ list) = (slice_get source offset ≡ Some value) × IsTruthful source list
-IsTruthful source (Eof total ∷ list) = IsTruthful source list
-IsTruthful source (Eod ∷ list) = IsTruthful source list
-IsTruthful source (Bad refusal ∷ list) = IsTruthful source list
 
 -- one lane that sends a source: its bytes are the source's, and all have arrived where its EOD has
 pub record IsHonest (source : List ℕ) (list : List Arrival) : Type 0 where

@@ -11,8 +11,9 @@ use Rattle.gft_drive.specs.Words.{DriveState, Image}
 use Rattle.gft_keep.specs.Words.{IsOpen, keep_of}
 use Rattle.gft_eod.specs.Words.{Count}
 use Rattle.gridftpd.specs.Events.{events_of}
-use Rattle.gridftpd.specs.Totals.{first_of, AreAgreed}
-use Rattle.gridftpd.specs.Cause.{told_by, EndsNothing, HasNoBad}
+use Rattle.gft_outside.specs.Words.{first_of, AreAgreed}
+use Rattle.gridftpd.specs.Cause.{told_by, EndsNothing}
+use Rattle.gft_outside.specs.Words.{HasNoBad}
 use Rattle.gridftpd.specs.declared.intake.Intake.{Intake}
 
 -- at each offset of the set the file has the kept byte

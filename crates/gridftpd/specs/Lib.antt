@@ -5,6 +5,5 @@ pub mod Follows
 pub mod Images
 pub mod Line
 pub mod Status
-pub mod Totals
 pub mod Turn
 pub mod DrainWords

@@ -375,7 +375,15 @@ fn a_kept_byte_is_not_written_again(rt: HostRuntime) -> Result<(), Fail> {
 struct Alphabet;
 
 impl Origin for Alphabet {
-    ghost source = { λ label. Some (codes "abcdefghi") };
+    ghost use Rattle.std.proofs.Common.{arith};
+    ghost use Rattle.gft_drive.specs.Words.{one_lane};
+    ghost use Rattle.gft_drive.proofs.Lemmas.{one_lane_fit};
+
+    ghost source = { λ _. Some (codes "abcdefghi") };
+
+    ghost orders = { λ _ _. one_lane (codes "abcdefghi") };
+
+    ghost fit = { one_lane_fit (codes "abcdefghi") (omega arith) };
 }
 
 #[test]

@@ -5,9 +5,7 @@ use Rattle.gft_eblock.specs.declared.Event.{Event}
 use Rattle.gft_eblock.specs.declared.Event.TheVariants as event
 use Rattle.gft_eblock.specs.declared.channel.State.{State}
 use Rattle.gft_eblock.specs.declared.channel.State.TheVariants.{Header, Data, EodWaits, Done, Failed}
-use Rattle.gft_eblock.specs.Channel.{IsDoneState}
-use Rattle.gft_eblock.specs.Feeding.{IsEventOf, IsOpen}
-use Rattle.gft_eblock.specs.Words.{IsDone, Reader, wanted}
+use Rattle.gft_eblock.specs.Words.{IsDone, IsDoneState, IsEventOf, Reader, TakesMore, wanted}
 use Rattle.gft_keep.specs.declared.KeepError.{KeepError}
 use Rattle.gft_keep.specs.Words.{ShowsRefusal, block_of, keep_of}
 use Rattle.gridftpd.proofs.FollowLemmas.{follows_none, follows_piece, follows_eof, follows_eod}
@@ -55,7 +53,7 @@ returns-in-Err-clause-caused g c stream left follows =
       held_bad state stream c.args.self.now c.args.piece.now c.in-Err.bad _ follows c.in-Err.ensures.bad,
     )
 
-open_not_done : (s : State) → IsOpen s → IsDoneState s → ⊥
+open_not_done : (s : State) → TakesMore s → IsDoneState s → ⊥
 open_not_done Header going done = done
 open_not_done (Data offset left eod) going done = done
 open_not_done EodWaits going done = done

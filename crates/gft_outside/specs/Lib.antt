@@ -1,0 +1,15 @@
+pub mod Clocks
+pub mod ControlInputs
+pub mod ControlScripts
+pub mod Gates
+pub mod Honest
+pub mod LaneArrivals
+pub mod LaneInputs
+pub mod LaneScripts
+pub mod LaneStates
+pub mod Laws
+pub mod Lists
+pub mod Told
+pub mod Totals
+pub mod Whole
+pub mod Words

@@ -1,0 +1,17 @@
+-- The words of this crate that the clauses and proofs of other crates may cite.
+pub use Rattle.gft_outside.specs.Clocks.{Ticks}
+pub use Rattle.gft_outside.specs.ControlInputs.{ControlEnds, ControlInput, ControlState, HeardFits, Hears}
+pub use Rattle.gft_outside.specs.ControlInputs.{Pause, Said, heard_by, said}
+pub use Rattle.gft_outside.specs.ControlScripts.{ControlList, control_inputs, control_state, new_control}
+pub use Rattle.gft_outside.specs.Gates.{Gate, GateAnswers, GateCounts, gate_state}
+pub use Rattle.gft_outside.specs.Honest.{HasNoBad, IsHonestLane, IsTruthful, arrival_event, arrival_events}
+pub use Rattle.gft_outside.specs.LaneArrivals.{OnlyOn, gained, lane_arrivals, stream}
+pub use Rattle.gft_outside.specs.LaneInputs.{AreInTurn, Came, Channels, Ended, IsInTurn, LaneInput, Opened}
+pub use Rattle.gft_outside.specs.LaneInputs.{Silence, channels_after, is_live, no_channels, without}
+pub use Rattle.gft_outside.specs.LaneScripts.{LaneList, front_in_turn, lane_inputs, lane_state, new_lane}
+pub use Rattle.gft_outside.specs.LaneStates.{EventFits, Gives, LaneEnds, LaneState, ends_lane, given_by}
+pub use Rattle.gft_outside.specs.Lists.{Failures, FailsBy, Script, fails_next}
+pub use Rattle.gft_outside.specs.Told.{Gains, IsOver, Loses}
+pub use Rattle.gft_outside.specs.Totals.{AllAre, AreAgreed, first_of}
+pub use Rattle.gft_outside.specs.Whole.{AreWhole, AreWholeParts, EndsItsChannels, IsSmooth, IsWholeLane}
+pub use Rattle.gft_outside.specs.Whole.{IsWholePart, all_eods, all_totals, byte_count}
