@@ -1,0 +1,4 @@
+pub mod Causes
+pub mod Ledger
+pub mod Views
+pub mod Words
