@@ -1,0 +1,6 @@
+-- The lemmas of this crate that the proofs of other crates may cite.
+pub use Rattle.gft_book.proofs.LiveLemmas.{IsLaneOf-lane, IsLive-carries_on, IsLive-running, IsLive-start, KeptSince-keeps}
+pub use Rattle.gft_book.proofs.LiveLemmas.{in_map, passes_fit}
+pub use Rattle.gft_book.proofs.PassesLemmas.{HasAllPasses-begun, HasAllPasses-lane, HasAllPasses-ok}
+pub use Rattle.gft_book.proofs.PassesLemmas.{HasAllPasses-set, HasAllPasses-storing, IsLanePass-same}
+pub use Rattle.gft_book.proofs.PassesLemmas.{IsLanePass-storing, Moving-refl, SamePass-store}

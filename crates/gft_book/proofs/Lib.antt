@@ -1,0 +1,19 @@
+mod ChoiceLemmas
+mod KeepLemmas
+mod OriginLemmas
+mod NumbersLemmas
+mod SumLemmas
+mod TransferLemmas
+mod FitLemmas
+mod StoreLemmas
+mod CountLemmas
+mod MarkLemmas
+mod EndLemmas
+mod SettleLemmas
+mod MissingLemmas
+mod BeginLemmas
+mod StartLemmas
+mod LiveLemmas
+mod PassesLemmas
+-- what the proofs of other crates may cite
+pub mod Lemmas

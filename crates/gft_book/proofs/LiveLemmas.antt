@@ -1,0 +1,210 @@
+-- What a lock knows stays true.
+use Rattle.std.proofs.Common.{◌≡◌, ◌⊎◌, ℕ, ◌+◌, ◌-◌, ◌^◌, ◌<◌, ◌≤◌, min, List, length, Some, None, Ok, Err, refl, sym, ap, ◌∙◌, subst, ⊎_elim, inl, inr, arith}
+use Rattle.std.specs.Prelude.{Option, Result, IsSome, IfSome, OnErr, OnOk, slice_get}
+use Rattle.std.proofs.lemmas.Option.{none-some}
+use Rattle.atomic_table.specs.Seated.{TableId}
+use Rattle.gft_base.specs.Words.{Rose}
+use Rattle.gft_range.specs.declared.Range.{Range}
+use Rattle.gft_range.specs.Words.{HasOffset}
+use Rattle.gft_drive.specs.Words.{DriveState, Image, MayLeave, Sent, total_of}
+use Rattle.gft_eod.specs.declared.EodError.{EodError}
+use Rattle.gft_keep.specs.declared.KeepError.{KeepError}
+use Rattle.gft_keep.specs.declared.Standing.TheVariants.{Whole}
+use Rattle.gft_keep.specs.Words.{IsKeep, KeepState}
+use Rattle.gft_core.specs.Words.{held}
+use Rattle.gft_pass.specs.declared.Cause.{Cause}
+use Rattle.gft_pass.specs.declared.Cause.TheVariants.{DriveFailed}
+use Rattle.gft_pass.specs.declared.Numbers.{Numbers}
+use Rattle.gft_pass.specs.Words.{AllPasses, Lane, cause_of_count}
+use Rattle.gft_book.specs.declared.cause.Stop.{Stop}
+use Rattle.gft_book.specs.declared.usage.How.{How}
+use Rattle.gft_book.specs.declared.transfer.Transfer.{Transfer}
+use Rattle.gft_book.specs.declared.transfer.Stage.{Stage}
+use Rattle.gft_book.specs.declared.transfer.Stage.TheVariants.{Rest, Reading, Storing}
+use Rattle.gft_book.specs.Book.{BookState, InTransfer, IsLanePass, IsPass, IsRunning, Moving, Seen, book_of, cause_of, left_out, rest_of, transfer_of}
+use Rattle.gft_book.specs.Facts.{IsBook, IsTransfer, standing_after}
+use Rattle.gft_book.specs.Keeping.{Keeps, KeepsByte, NeverFalls, byte_read}
+use Rattle.gft_book.specs.Calls.{CallsOn, CarriesOn, FindsFailed, HasEodLeft, IsNext, IsOfSource, KeepsCause, KeepsFirst, RefusesBlock, RefusesEod, RefusesEof, SameTransfer, SendsBlock, SendsEod, SendsTotal, StopsBlock, StopsEod, StopsEof, TakesEod, TakesEof, cause_of_keep, one_eod, with_total}
+use Rattle.gft_book.specs.Live.{BlockIn, EodIn, IsLaneOf, IsLive, IsPassOf, IsStarted, KeptSince, Learns, SamePass, Start, TotalIn, start_at, start_now, start_of}
+use Rattle.gft_book.proofs.ChoiceLemmas.{if_map, if_some, is_there, off, on_err}
+use Rattle.gft_book.proofs.KeepLemmas.{Keeps-same, held_byte}
+use Rattle.gft_book.proofs.TransferLemmas.{in_transfer, moved}
+
+-- the transfer in a stage
+record There (P : Transfer → Type 0) (stage : Stage) : Type 0 where
+  pub t : Transfer
+  pub is : stage ≡ Storing t
+  pub so : P t
+
+there : (P : Transfer → Type 0) (stage : Stage) → InTransfer P stage → There P stage
+there P (Storing t) h = record { t = t; is = refl; so = h }
+there P Rest h = absurd h
+there P (Reading n) h = absurd h
+
+back : (P : Transfer → Type 0) (stage : Stage) (t : Transfer) → stage ≡ Storing t → P t → InTransfer P stage
+back P stage t is h = subst (λ (s : Stage). InTransfer P s) (sym is) h
+
+pub lane_fits : (start : Start) (book : BookState) (pass : Lane) → IsLive start book → IsLaneOf start pass → IsLanePass book.stage pass
+lane_fits start book pass live mine =
+    let h = there (IsStarted start) book.stage live.transfer in
+    back (λ t. (pass.table ≡ t.roster.table) × (pass.lane + 1 < length t.roster.counts)) book.stage h.t h.is
+    (mine.0 ∙ sym h.so.table, omega (arith, mine.1, h.so.passes))
+
+pub block_fits : (sent : List ℕ → Option Sent) (start : Start) (book : BookState) (pass : Lane) (offset : ℕ) (bytes : List ℕ) → IsLive start book → BlockIn sent start pass offset bytes → SendsBlock sent book pass offset bytes
+block_fits sent start book pass offset bytes live block =
+    let h = there (IsStarted start) book.stage live.transfer in
+    let rest : rest_of book.stage ≡ left_out start.how = ap rest_of h.is ∙ ap left_out h.so.how in
+    subst (λ (l : List ℕ). IfSome (sent l) (λ s. IsOfSource s.source offset bytes × IfSome (rest_of book.stage) (λ r. IsNext (s.orders r) pass offset bytes))) (sym live.kept.label)
+    (subst (λ (o : Option (List Range)). IfSome (sent start.label) (λ s. IsOfSource s.source offset bytes × IfSome o (λ r. IsNext (s.orders r) pass offset bytes))) (sym rest) block)
+
+-- what was kept at the start is kept now
+byte_now : (start : Start) (keep : KeepState) → IsKeep keep → KeptSince start keep → IsSome start.read → (x v : ℕ) → HasOffset start.ranges x → byte_read start.read x ≡ Some v → KeepsByte keep x v
+byte_now start keep sound k told x v has is =
+    let read = is_there keep.drive.contents (k.tells told) in
+    let now = sound.lawful.read read.0 read.1 in
+    let since = sound.lawful.since start.moment keep.drive.moment read.0 k.later (omega arith) now in
+    let h = k.held told read.0 since x v has is in
+    (k.ranges x has, ap (λ (o : Option Image). byte_read o x) read.1 ∙ held_byte read.0 x v h)
+
+pub KeptSince-keeps : (start : Start) (old new : KeepState) → IsKeep old → KeptSince start old → Keeps old new → KeptSince start new
+KeptSince-keeps start old new sound k g =
+    record {
+      label = g.time.goes.label ∙ k.label;
+      tells = λ told. g.time.goes.tells.1 (k.tells told);
+      later = let a = k.later in let b = g.time.later in omega (arith, a, b);
+      counted = let a = k.counted in let b = g.counted in omega (arith, a, b);
+      ranges = λ x c. g.ranges x (k.ranges x c);
+      held = λ told image left x v has is. ⊎_elim
+          (λ before. k.held told image before x v has is)
+          (λ now. g.held (k.tells told) image now x v (byte_now start old sound k told x v has is))
+          (g.time.nothing_else start.moment image k.later left);
+    }
+
+pub IsLive-carries_on : (start : Start) (old new : BookState) → IsKeep old.keep → IsLive start old → CarriesOn old new → IsLive start new
+IsLive-carries_on start old new sound live g =
+    let h = there (IsStarted start) old.stage live.transfer in
+    let m = moved SameTransfer old.stage new.stage g.transfer in
+    let same : m.before ≡ h.t = one_transfer m.before h.t (sym m.was ∙ h.is) in
+    let is_this = subst (IsStarted start) (sym same) h.so in
+    record {
+      transfer = back (IsStarted start) new.stage m.after m.is (record { table = m.so.table ∙ is_this.table; how = m.so.how ∙ is_this.how; passes = m.so.passes ∙ is_this.passes });
+      kept = KeptSince-keeps start old.keep new.keep sound live.kept g.keeps;
+      failed = λ is. ⊎_elim
+          (λ before. let a = live.failed before in let b = g.keeps.counted in omega (arith, a, b))
+          (λ rose. let a = live.kept.counted in omega (arith, a, rose))
+          (g.failed is);
+    }
+  where
+    one_transfer : (a b : Transfer) → Storing a ≡ Storing b → a ≡ b
+    one_transfer a b e = cc
+
+-- a Book that goes into its lock while its transfer runs
+pub IsLive-start : (book : BookState) (t : Transfer) → book.stage ≡ Storing t → t.cause ≡ None → IsKeep book.keep → (book.keep.standing ≡ Whole) → IsLive (start_now book) book
+IsLive-start book t is none sound whole =
+    subst (λ (s : Stage). IsLive (start_at book s) book) (sym is)
+    record {
+      transfer = back (IsStarted (start_of book t)) book.stage t is (record { table = refl; how = refl; passes = refl });
+      kept = record {
+        label = refl;
+        tells = λ told. told;
+        later = omega arith;
+        counted = omega arith;
+        ranges = λ x c. c;
+        held = λ told image left x v has is_v. (Keeps-same book.keep sound (inl whole)).held told image left x v (has, is_v);
+      };
+      failed = λ failed. absurd (none-some DriveFailed (sym (sym failed ∙ (ap cause_of is ∙ none))));
+    }
+
+-- a Book whose transfer runs, and a lane's pass of it
+pub IsLive-running : (sent : List ℕ → Option Sent) (book : BookState) → IsBook sent book → IsRunning book.stage → IsLive (start_now book) book
+IsLive-running sent book facts running =
+    let h = there (λ t. t.cause ≡ None) book.stage running in
+    let whole = (if_some (transfer_of book.stage) (IsTransfer sent book.keep) h.t (ap transfer_of h.is) facts.transfer).standing in
+    IsLive-start book h.t h.is h.so facts.keep (whole ∙ ap standing_after h.so)
+
+pub IsLaneOf-lane : (book : BookState) (pass : Lane) → IsLanePass book.stage pass → IsLaneOf (start_now book) pass
+IsLaneOf-lane book pass mine =
+    let h = there (λ t. (pass.table ≡ t.roster.table) × (pass.lane + 1 < length t.roster.counts)) book.stage mine in
+    subst (λ (start : Start). IsLaneOf start pass) (sym (ap (start_at book) h.is)) h.so
+
+abbrev pub LearnsKeep : Lane → Lane → Type 0
+LearnsKeep before after = Learns (λ cause. (error : KeepError) × (cause ≡ cause_of_keep error)) before.count after.count
+
+learns_store : (unchanged : Type 0) (old new : BookState) (before after : Lane) (offset : ℕ) (bytes : List ℕ) → StopsBlock unchanged old new before after offset bytes → LearnsKeep before after
+learns_store unchanged old new before after offset bytes stops =
+    ⊎_elim
+    (λ found. let m = moved (FindsFailed before after) old.stage new.stage found in inl (ap (λ (p : Lane). p.count) m.so.moves.pass))
+    (λ (refused : RefusesBlock unchanged old new before after offset bytes). let m = moved (KeepsCause (cause_of_keep refused.error) before after) old.stage new.stage refused.fails in
+    inr (cause_of_keep refused.error, (refused.error, refl), ap (λ (p : Lane). p.count) m.so.moves.pass))
+    stops
+
+pub learns_err : (unchanged : Type 0) (r : Result ℕ Stop) (old new : BookState) (before after : Lane) (offset : ℕ) (bytes : List ℕ) → OnErr r (StopsBlock unchanged old new before after offset bytes) → OnErr r (LearnsKeep before after)
+learns_err unchanged r old new before after offset bytes h = on_err r _ _ (λ s. learns_store unchanged old new before after offset bytes s) h
+
+pub pass_fits : (start : Start) (book : BookState) (pass : Lane) → IsLive start book → IsPassOf start pass → IsPass book.stage pass
+pass_fits start book pass live mine =
+    let h = there (IsStarted start) book.stage live.transfer in
+    back (λ t. (pass.table ≡ t.roster.table) × (pass.lane < length t.roster.counts)) book.stage h.t h.is
+    (mine.0 ∙ sym h.so.table, omega (arith, mine.1, h.so.passes))
+
+pub learns_fail : (old new : BookState) (before after : Lane) (c : Cause) → Moving (KeepsFirst c before after) old.stage new.stage → Learns (λ kept. kept ≡ c) before.count after.count
+learns_fail old new before after c moving =
+    let m = moved (KeepsFirst c before after) old.stage new.stage moving in
+    ⊎_elim
+    (λ (found : FindsFailed before after m.before m.after). inl (ap (λ (p : Lane). p.count) found.moves.pass))
+    (λ (fails : KeepsCause c before after m.before m.after). inr (c, refl, ap (λ (p : Lane). p.count) fails.moves.pass))
+    m.so
+
+-- the passes that fitted the Book before its lock fit it after
+pub passes_fit : (book now : BookState) (passes : List Lane) → InTransfer (λ t. AllPasses t.roster.table (length t.roster.counts) passes) book.stage → IsLive (start_now book) now → InTransfer (λ t. AllPasses t.roster.table (length t.roster.counts) passes) now.stage
+passes_fit book now passes all live =
+    let P : Transfer → Type 0 = λ t. AllPasses t.roster.table (length t.roster.counts) passes in
+    let b = there P book.stage all in
+    let start : start_now book ≡ start_of book b.t = ap (start_at book) b.is in
+    let n = there (IsStarted (start_now book)) now.stage live.transfer in
+    let table : b.t.roster.table ≡ n.t.roster.table = sym (n.so.table ∙ ap (λ (s : Start). s.table) start) in
+    let many : length b.t.roster.counts ≡ length n.t.roster.counts = sym (n.so.passes ∙ ap (λ (s : Start). s.passes) start) in
+    back P now.stage n.t n.is (subst (λ (x : TableId). AllPasses x (length n.t.roster.counts) passes) table (subst (λ (x : ℕ). AllPasses b.t.roster.table x passes) many b.so))
+
+pub in_map : (P Q : Transfer → Type 0) (stage : Stage) → ((t : Transfer) → P t → Q t) → InTransfer P stage → InTransfer Q stage
+in_map P Q (Storing t) f h = f t h
+in_map P Q Rest f h = absurd h
+in_map P Q (Reading n) f h = absurd h
+
+-- ---- eof, eod
+
+rest_now : (start : Start) (book : BookState) → IsLive start book → rest_of book.stage ≡ left_out start.how
+rest_now start book live =
+    let h = there (IsStarted start) book.stage live.transfer in
+    ap rest_of h.is ∙ ap left_out h.so.how
+
+pub total_fits : (sent : List ℕ → Option Sent) (start : Start) (book : BookState) (total : ℕ) → IsLive start book → TotalIn sent start total → SendsTotal sent book total
+total_fits sent start book total live h =
+    subst (λ (l : List ℕ). IfSome (sent l) (λ s. IfSome (rest_of book.stage) (λ r. total ≡ total_of (s.orders r)))) (sym live.kept.label)
+    (subst (λ (o : Option (List Range)). IfSome (sent start.label) (λ s. IfSome o (λ r. total ≡ total_of (s.orders r)))) (sym (rest_now start book live)) h)
+
+pub eod_fits : (sent : List ℕ → Option Sent) (start : Start) (book : BookState) (pass : Lane) → IsLive start book → EodIn sent start pass → SendsEod sent book pass
+eod_fits sent start book pass live h =
+    subst (λ (l : List ℕ). IfSome (sent l) (λ s. IfSome (rest_of book.stage) (λ r. HasEodLeft (s.orders r) pass))) (sym live.kept.label)
+    (subst (λ (o : Option (List Range)). IfSome (sent start.label) (λ s. IfSome o (λ r. HasEodLeft (s.orders r) pass))) (sym (rest_now start book live)) h)
+
+abbrev CountLearns : Lane → Lane → Type 0
+CountLearns before after = Learns (λ cause. (error : EodError) × (cause ≡ cause_of_count error)) before.count after.count
+
+pub learns_eof : {A : Type 0} → (r : Result A Stop) (old new : BookState) (before after : Lane) (total : ℕ) → OnErr r (Moving (StopsEof total before after) old.stage new.stage) → OnErr r (CountLearns before after)
+learns_eof r old new before after total h =
+    on_err r _ _ (λ (stops : Moving (StopsEof total before after) old.stage new.stage).
+    let m = moved (StopsEof total before after) old.stage new.stage stops in
+    ⊎_elim
+    (λ (found : FindsFailed before after m.before m.after). inl (ap (λ (p : Lane). p.count) found.moves.pass))
+    (λ (no_ : RefusesEof total before after m.before m.after). inr (cause_of_count no_.error, (no_.error, refl), ap (λ (p : Lane). p.count) no_.fails.moves.pass))
+    m.so) h
+
+pub learns_eod : {A : Type 0} → (r : Result A Stop) (old new : BookState) (before after : Lane) → OnErr r (Moving (StopsEod before after) old.stage new.stage) → OnErr r (CountLearns before after)
+learns_eod r old new before after h =
+    on_err r _ _ (λ (stops : Moving (StopsEod before after) old.stage new.stage).
+    let m = moved (StopsEod before after) old.stage new.stage stops in
+    ⊎_elim
+    (λ (found : FindsFailed before after m.before m.after). inl (ap (λ (p : Lane). p.count) found.moves.pass))
+    (λ (no_ : RefusesEod before after m.before m.after). inr (cause_of_count no_.error, (no_.error, refl), ap (λ (p : Lane). p.count) no_.fails.moves.pass))
+    m.so) h

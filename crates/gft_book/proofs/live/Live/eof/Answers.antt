@@ -1,0 +1,10 @@
+use Rattle.gft_book.specs.Book.{book_of}
+use Rattle.gft_book.proofs.LiveLemmas.{IsLive-carries_on, learns_eof}
+use Rattle.gft_book.proofs.live.Live.eof.Goals as goal
+
+pub invariant_of-self : goal.invariant_of-self
+invariant_of-self g c = IsLive-carries_on g.N.Run.start _ _ c.facts.ensures.keep c.self.invariant c.eof-answer.ensures.calls_on.goes_on
+
+pub returns-clause-stopped : goal.returns-clause-stopped
+returns-clause-stopped g c =
+    learns_eof c.eof-answer.result (book_of g.D.Drive.state c.self.inside.book) (book_of g.D.Drive.state c.eof-answer.new.self) c.args.pass.now c.eof-answer.new.pass c.args.total c.eof-answer.ensures.stopped

@@ -1,0 +1,18 @@
+use Rattle.std.proofs.Common.{arith}
+use Rattle.atomic_table.proofs.Lists.{at_index}
+use Rattle.gft_book.specs.Book.{book_of}
+use Rattle.gft_book.proofs.LiveLemmas.{IsLaneOf-lane, IsLive-running}
+use Rattle.gft_book.proofs.PassesLemmas.{HasAllPasses-lane}
+use Rattle.gft_book.proofs.tests.lend_first.Goals as goal
+
+pub lend-requires-clause-live : goal.lend-requires-clause-live
+lend-requires-clause-live g c κs within =
+    IsLive-running _ (book_of g.D.Drive.state c.args.book) c.facts.ensures (c.running.ensures.running.0 c.if-running.true)
+
+pub lend-requires-clause-pass : goal.lend-requires-clause-pass
+lend-requires-clause-pass g c κs within =
+    let passes = c.args.passes.now.items in
+    let i = c.in-Some.ensures.item in
+    let at = at_index passes 0 c.in-Some.pass.now i.3.0 i.1 in
+    IsLaneOf-lane (book_of g.D.Drive.state c.args.book) c.in-Some.pass.now
+    (HasAllPasses-lane c.args.book.stage passes 0 c.in-Some.pass.now c.requires at (omega (arith, c.if-len-lt2.false, c.len.ensures)))

@@ -1,0 +1,9 @@
+pub mod Begin
+pub mod Book
+pub mod Calls
+pub mod Ending
+pub mod Facts
+pub mod Fits
+pub mod Keeping
+pub mod Live
+pub mod Words

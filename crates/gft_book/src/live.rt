@@ -1,0 +1,129 @@
+ghost use Rattle.std.specs.Prelude.{◌≡◌, length, OnOk, OnErr};
+ghost use Rattle.gft_drive.specs.Words.{sent_by};
+ghost use Rattle.gft_eod.specs.declared.EodError.{EodError};
+ghost use Rattle.gft_keep.specs.declared.KeepError.{KeepError};
+ghost use Rattle.gft_keep.specs.Words.{IsBlock};
+ghost use Rattle.gft_pass.specs.Words.{cause_of_count};
+ghost use Rattle.gft_book.specs.Book.{book_of};
+ghost use Rattle.gft_book.specs.Calls.{IsOutside, cause_of_keep, more_bytes, one_eod, with_total};
+ghost use Rattle.gft_book.specs.Live.{BlockIn, EodIn, IsLaneOf, IsLive, IsPassOf, Learns, SamePass, TotalIn};
+
+use crate::book::Book;
+use crate::cause::Stop;
+use gft_drive::{Drive, Origin};
+use gft_pass::{Cause, Pass};
+use std::marker::{Brand, Model, PhantomData};
+use std::sync::Mutex;
+
+/// Names one transfer in a type. It has no value; the call that makes the lock picks its meaning.
+pub trait Run {
+    ghost use Rattle.gft_book.specs.Live.{Start};
+
+    /// What is known when the lock is made.
+    ghost start: { Start };
+}
+
+impl Run for Brand {
+    ghost use Rattle.gft_book.specs.Live.{no_start};
+
+    ghost start = { no_start };
+}
+
+/// A Book that stores the transfer of `N`, which runs or has failed. Contracts see the Book.
+#[derive(Drop)]
+pub struct Live<D: Drive + Drop, O: Origin, N: Run> {
+    book: Book<D, O>,
+    run: PhantomData<N>,
+}
+
+/// The lock of one transfer.
+pub type Shared<D, O, N> = Mutex<Live<D, O, N>>;
+
+impl<D: Drive + Drop, O: Origin, N: Run> Model for Live<D, O, N> {
+    ghost use Rattle.gft_book.specs.Book.{Seen, book_of};
+    ghost use Rattle.gft_book.specs.Live.{IsLive};
+
+    ghost Value = { Seen D };
+
+    ghost view = { λ l. l.book };
+
+    ghost invariant = { λ l. IsLive N.start (book_of D.state l.book) };
+}
+
+impl<D: Drive + Drop, O: Origin, N: Run> Live<D, O, N> {
+    /// A Book for the lock of its transfer.
+    pub fn new(book: Book<D, O>) -> Live<D, O, N>
+        requires live { IsLive N.start (book_of D.state book) }
+        ensures book { result ≡ book }
+    {
+        Live {
+            book,
+            run: PhantomData,
+        }
+    }
+
+    /// Takes the Book out again.
+    pub fn into_book(self) -> Book<D, O>
+        ensures book { result ≡ self }
+        ensures live { IsLive N.start (book_of D.state result) }
+    {
+        self.book
+    }
+
+    /// `Book::store`, for a mover that knows its transfer by the type of the lock.
+    pub fn store(&mut self, pass: &mut Pass, offset: u64, bytes: &[u8]) -> Result<u64, Stop>
+        requires pass { IsLaneOf N.start pass.old }
+        requires block { IsBlock offset bytes.now }
+        requires honest { BlockIn (sent_by O.source O.orders O.fit) N.start pass.old offset bytes.now }
+        ensures pass { SamePass pass.old pass.new }
+        ensures stored { OnOk result (pass.new.count ≡ more_bytes (length bytes.now) pass.old.count) }
+        ensures stopped { OnErr result (Learns (λ cause. (error : KeepError) × (cause ≡ cause_of_keep error))
+            pass.old.count pass.new.count) }
+    {
+        self.book.facts();
+        let answer = self.book.store(pass, offset, bytes);
+        self.book.facts();
+        answer
+    }
+
+    /// `Book::eof`, for a mover that knows its transfer by the type of the lock.
+    pub fn eof(&mut self, pass: &mut Pass, total: u64) -> Result<(), Stop>
+        requires pass { IsLaneOf N.start pass.old }
+        requires honest { TotalIn (sent_by O.source O.orders O.fit) N.start total }
+        ensures pass { SamePass pass.old pass.new }
+        ensures taken { OnOk result (pass.new.count ≡ with_total total pass.old.count) }
+        ensures stopped { OnErr result (Learns (λ cause. (error : EodError) × (cause ≡ cause_of_count error))
+            pass.old.count pass.new.count) }
+    {
+        self.book.facts();
+        let answer = self.book.eof(pass, total);
+        self.book.facts();
+        answer
+    }
+
+    /// `Book::eod`, for a mover that knows its transfer by the type of the lock.
+    pub fn eod(&mut self, pass: &mut Pass) -> Result<(), Stop>
+        requires pass { IsLaneOf N.start pass.old }
+        requires honest { EodIn (sent_by O.source O.orders O.fit) N.start pass.old }
+        ensures pass { SamePass pass.old pass.new }
+        ensures taken { OnOk result (pass.new.count ≡ one_eod pass.old.count) }
+        ensures stopped { OnErr result (Learns (λ cause. (error : EodError) × (cause ≡ cause_of_count error))
+            pass.old.count pass.new.count) }
+    {
+        self.book.facts();
+        let answer = self.book.eod(pass);
+        self.book.facts();
+        answer
+    }
+
+    /// `Book::fail`, for a mover that knows its transfer by the type of the lock.
+    pub fn fail(&mut self, pass: &mut Pass, cause: Cause)
+        requires pass { IsPassOf N.start pass.old }
+        requires outside { IsOutside cause }
+        ensures pass { SamePass pass.old pass.new }
+        ensures learned { Learns (λ kept. kept ≡ cause) pass.old.count pass.new.count }
+    {
+        self.book.facts();
+        self.book.fail(pass, cause);
+    }
+}

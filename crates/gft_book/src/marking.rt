@@ -1,0 +1,64 @@
+ghost use Rattle.std.specs.Prelude.{◌≡◌, ℕ, ◌<◌, ◌≤◌, ◌↔◌, List, ◌∷◌, length, slice_get, Some, IsTrue};
+ghost use Rattle.std.specs.Prelude.{IfOk, IfSome, IfNone, OnOk, OnErr};
+ghost use Rattle.gft_range.specs.Words.{HasOffset};
+ghost use Rattle.gft_core.specs.Words.{held};
+ghost use Rattle.gft_core.specs.declared.CoreEvent.{CoreEvent};
+ghost use Rattle.gft_core.specs.declared.CoreEvent.TheVariants as event;
+ghost use Rattle.gft_keep.specs.Words.{EachImage, keep_of};
+ghost use Rattle.gft_book.specs.Book.{IsStoring, book_of};
+ghost use Rattle.gft_book.specs.Calls.{Marked, MarksOnly};
+ghost use Rattle.gft_book.specs.Fits.{Fits};
+ghost use Rattle.gft_book.specs.Keeping.{KeepsByte};
+
+use crate::book::Book;
+use crate::mark::Mark;
+use gft_base::OutOfMemory;
+use gft_drive::{Drive, Origin};
+use gft_range::MAX_ITEMS;
+
+impl<D: Drive + Drop, O: Origin> Book<D, O> {
+    /// Whether at least so many bytes were booked since the last mark, or since the transfer began.
+    pub fn mark_due(&self, every: u64) -> bool
+        ensures due { IsTrue result ↔ (every ≤ self.now.unmarked) }
+    {
+        every <= self.unmarked
+    }
+
+    /// Marks the first [`MAX_ITEMS`] kept ranges, and tells the mark's number. `OutOfMemory` if the mark
+    /// can't be allocated; then nothing changes.
+    pub fn mark(&mut self) -> Result<u64, OutOfMemory>
+        requires storing { IsStoring self.old.stage }
+        requires some { 0 < length (keep_of D.state self.old.keep).ranges }
+        ensures marked { IfOk result (Marked (book_of D.state self.old) (book_of D.state self.new)) }
+        ensures refused { OnErr result (self.new ≡ self.old) }
+        ensures only { MarksOnly self.old self.new }
+        ensures events { OnOk result ((events : List CoreEvent) → Fits (book_of D.state self.old) events
+            → Fits (book_of D.state self.new) (event.Mark ∷ events)) }
+    {
+        let number = self.marks.len() as u64;
+        let ranges = self.keep.ranges().first(MAX_ITEMS)?;
+        self.marks.push(Mark { number, ranges })?;
+        self.unmarked = 0;
+        Ok(number)
+    }
+
+    /// The mark with this number. Every image that a crash may leave now holds what it names, with the bytes
+    /// that a read gives.
+    pub fn mark_at(&self, number: u64) -> Option<&Mark>
+        ensures mark { IfSome result (λ mark. slice_get self.now.marks number ≡ Some mark.now) }
+        ensures none { IfNone result (length self.now.marks ≤ number) }
+        ensures held { IfSome result (λ mark. EachImage (keep_of D.state self.now.keep) (λ image.
+            (x : ℕ) → HasOffset mark.now.ranges.ranges x
+            → (v : ℕ) × (held image x ≡ Some v) × KeepsByte (keep_of D.state self.now.keep) x v)) }
+    {
+        self.facts();
+        self.nth_mark(number)
+    }
+
+    fn nth_mark(&self, number: u64) -> Option<&Mark>
+        ensures mark { IfSome result (λ mark. slice_get self.now.marks number ≡ Some mark.now) }
+        ensures none { IfNone result (length self.now.marks ≤ number) }
+    {
+        self.marks.get(number as usize)
+    }
+}
