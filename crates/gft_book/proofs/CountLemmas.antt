@@ -1,13 +1,13 @@
 -- A Book before and after `eof`, `eod` and `fail`.
-use Rattle.std.proofs.Common.{◌≡◌, ℕ, ◌+◌, ◌<◌, ◌≤◌, ◌||◌, List, [], ◌∷◌, length, Some, None, Bool, true, false, refl, sym, ap, ◌∙◌, subst, inl, inr, arith, eq-eqb, ne_eqb}
-use Rattle.std.specs.Prelude.{Option, Result, IfSome, OnOk, OnErr, nat_eq, nat_lt, nat_le, unwrap_or, if◌then◌else◌}
+use Rattle.std.proofs.Common.{◌≡◌, ℕ, ◌+◌, ◌<◌, ◌≤◌, ◌||◌, List, [], ◌∷◌, length, Some, None, Bool, true, false, refl, sym, ap, ◌∙◌, subst, ⊎_elim, inl, inr, arith, eq-eqb, ne_eqb}
+use Rattle.std.specs.Prelude.{Option, Result, IfSome, IsSome, OnOk, OnErr, nat_eq, nat_lt, nat_le, unwrap_or, if◌then◌else◌}
 use Rattle.std.proofs.lemmas.Option.{none-some, same_Some}
 use Rattle.std.proofs.lemmas.Bool.{leb-true, ltb-true, ltb-false, leb-false}
 use mathlib.Core.Logic.{dite}
 use native.Mathlib.Decide.{ℕ_discrete}
 use Rattle.gft_drive.specs.Words.{DriveState, Sent, total_of}
 use Rattle.gft_eod.specs.declared.TheConstants.{MAX_EODS}
-use Rattle.gft_eod.specs.Words.{Count, IsCount, IsWithin, eod_refusal, eods_refusal, eof_refusal, totals_refusal}
+use Rattle.gft_eod.specs.Words.{Count, IsCount, IsMet, IsWithin, eod_refusal, eods_refusal, eof_refusal, totals_refusal}
 use Rattle.gft_eod.specs.declared.EodError.{EodError}
 use Rattle.gft_eod.specs.declared.EodError.TheVariants.{BadTotal, TwoTotals, TooManyEods}
 use Rattle.gft_keep.specs.declared.Standing.TheVariants.{Whole}
@@ -27,7 +27,7 @@ use Rattle.gft_book.specs.declared.transfer.Transfer.{Transfer}
 use Rattle.gft_book.specs.declared.transfer.Stage.{Stage}
 use Rattle.gft_book.specs.declared.transfer.Stage.TheVariants.{Storing, Reading}
 use Rattle.gft_book.specs.Book.{BookState, IsLanePass, Seen, book_of, Moving, cause_of, left_out, rest_of, transfer_of, up_to_last}
-use Rattle.gft_book.specs.Facts.{ImagesAreFrom, IsBook, IsHonestCause, IsSentBy, IsTransfer, MarksHold, ShowsCause, standing_after}
+use Rattle.gft_book.specs.Facts.{ImagesAreFrom, IsBook, IsEnded, IsHonestCause, IsSentBy, IsTransfer, MarksHold, ShowsCause, standing_after}
 use Rattle.gft_book.specs.Fits.{AreMarks, Fits, failure_of, if_running}
 use Rattle.gft_book.specs.Calls.{CallsOn, HasEodLeft, IsOutside, KeepsCause, RefusesEod, RefusesEof, RunsOn, SameTransfer, SendsEod, SendsTotal, TakesEod, TakesEof, one_eod, with_cause, with_total}
 use Rattle.gft_book.proofs.ChoiceLemmas.{by_result, if_some, not_there, off, some_there}
@@ -139,8 +139,8 @@ IsTransfer-broken sent keep t u before after cause f whole shown honest i =
       total = λ n is. same_total ∙ is;
       mine = λ n is. same_total ∙ i.numbers.totals before.lane n before.count f.moves.listed is;
       told = λ n is. inr (sym same_total ∙ is, refl);
-      stopped = λ is. some_there u.cause cause f.kept;
-      still = λ is. some_there u.cause cause f.kept;
+      stopped = λ is. inl (some_there u.cause cause f.kept);
+      still = λ is. inl (some_there u.cause cause f.kept);
     }
     (causes-first t.roster.counts before.lane before.count m cause none f.moves.listed refl ∙ ap one (sym f.kept))
     (λ s is rest of h. (
@@ -164,6 +164,10 @@ IsTransfer-eof sent keep t u before after total lane honest e i =
     let is_total : u.count.total ≡ Some total = ap (λ (c : Count). c.total) r.count in
     let first_total : (n : ℕ) → t.count.total ≡ Some n → n ≡ total = λ n is.
     same_Some n total (ap (λ (o : Option ℕ). first_some o (Some total)) (sym is) ∙ first_is t.count.total t.count.eods total (else_none (nat_eq total 0 || nat_lt MAX_EODS total) (BadTotal total) (totals_refusal t.count.total t.count.eods total) e.fits)) in
+    let still : IsEnded t.count t.cause → IsEnded u.count u.cause = λ ended. ⊎_elim
+    (λ (failed : IsSome t.cause). absurd (not_there t.cause r.running failed))
+    (λ (met : IsMet t.count). inr (is_total ∙ ap (λ (k : ℕ). Some k) (sym (first_total t.count.eods met)) ∙ ap (λ (k : ℕ). Some k) (sym is_eods)))
+    ended in
     IsTransfer-set sent keep keep t u before after m r.moves refl
     (i.standing ∙ ap standing_after (r.running ∙ sym r.cause)) refl refl
     record {
@@ -173,8 +177,8 @@ IsTransfer-eof sent keep t u before after total lane honest e i =
       total = λ n is. is_total ∙ ap (λ (k : ℕ). Some k) (sym (first_total n is));
       mine = λ n is. is_total ∙ is;
       told = λ n is. inl (sym is_total ∙ is);
-      stopped = λ is. absurd (not_there t.cause r.running (i.numbers.stopped before.lane before.count r.moves.listed is));
-      still = λ is. absurd (not_there t.cause r.running is);
+      stopped = λ is. still (i.numbers.stopped before.lane before.count r.moves.listed is);
+      still = still;
     }
     (causes-set t.roster.counts before.lane before.count m r.moves.listed refl ∙ i.numbers.causes ∙ ap one (r.running ∙ sym r.cause))
     (λ s is rest of h. (
@@ -212,6 +216,10 @@ IsTransfer-eod sent keep t u before after lane honest e i =
     let bounded : t.count.eods + 1 ≤ MAX_EODS = below t.count.total (t.count.eods + 1) within in
     let at_most = sum_by-at (λ (n : Numbers). n.eods) t.roster.counts before.lane before.count r.moves.listed in
     let one_more : m.eods ≡ before.count.eods + 1 = omega (arith, bounded, at_most, i.numbers.eods) in
+    let never : IsEnded t.count t.cause → IsEnded u.count u.cause = λ ended. ⊎_elim
+    (λ (failed : IsSome t.cause). absurd (not_there t.cause r.running failed))
+    (λ (met : IsMet t.count). let w = subst (λ (o : Option ℕ). IsWithin o (t.count.eods + 1)) met within in let a = w.2 in absurd (omega (arith, a)))
+    ended in
     IsTransfer-set sent keep keep t u before after m r.moves refl
     (i.standing ∙ ap standing_after (r.running ∙ sym r.cause)) refl refl
     record {
@@ -221,8 +229,8 @@ IsTransfer-eod sent keep t u before after lane honest e i =
       total = λ n is. is_total ∙ is;
       mine = λ n is. is_total ∙ i.numbers.totals before.lane n before.count r.moves.listed is;
       told = λ n is. inr (sym is_total ∙ is, refl);
-      stopped = λ is. absurd (not_there t.cause r.running (i.numbers.stopped before.lane before.count r.moves.listed is));
-      still = λ is. absurd (not_there t.cause r.running is);
+      stopped = λ is. never (i.numbers.stopped before.lane before.count r.moves.listed is);
+      still = never;
     }
     (causes-set t.roster.counts before.lane before.count m r.moves.listed refl ∙ i.numbers.causes ∙ ap one (r.running ∙ sym r.cause))
     (λ s is rest of h.

@@ -1,6 +1,6 @@
 -- Which lists of events fit a Book after a call with a pass.
 use Rattle.std.proofs.Common.{◌≡◌, ◌≢◌, ◌↔◌, ℕ, List, [], ◌∷◌, Some, None, true, false, refl, sym, ap, ◌∙◌, subst, ⊎_elim, inl, inr}
-use Rattle.std.specs.Prelude.{IsSome, IfSome}
+use Rattle.std.specs.Prelude.{Option, IsSome, IfSome}
 use Rattle.std.proofs.lemmas.Option.{none-some, same_Some}
 use Rattle.gft_range.specs.declared.Range.{Range}
 use Rattle.gft_range.specs.Words.{HasOffset}
@@ -26,7 +26,7 @@ use Rattle.gft_book.specs.declared.transfer.Stage.{Stage}
 use Rattle.gft_book.specs.declared.transfer.Stage.TheVariants.{Storing}
 use Rattle.gft_book.specs.Book.{BookState, transfer_of}
 use Rattle.gft_book.specs.Fits.{AreMarks, Fits, MayGoOn, TellsTransfer, stored_events}
-use Rattle.gft_book.specs.Calls.{FindsFailed, KeepsCause, RunsOn, cause_of_keep}
+use Rattle.gft_book.specs.Calls.{KeepsCause, NotesEnd, RunsOn, cause_of_keep}
 use Rattle.gft_book.proofs.ChoiceLemmas.{if_some, is_there, not_there, off, some_there}
 use Rattle.gft_book.proofs.KeepLemmas.{held_covers, held_stored, image_since, stores_held, union_has, union_new, union_old, whole_read}
 
@@ -42,9 +42,9 @@ marks_of book events t is f = f.marks (some_there (transfer_of book.stage) t (ap
 pub whole_shut : (book : BookState) (events : List CoreEvent) → book.keep.standing ≡ Whole → Fits book events → is_open events ≡ false
 whole_shut book events whole f = f.closed (λ torn. let w : Whole ≡ Torn = sym whole ∙ torn in cc)
 
--- a call that finds the transfer failed is no event
-pub Fits-found : (old new : BookState) (t u : Transfer) (before after : Lane) (events : List CoreEvent) → new.keep ≡ old.keep → old.stage ≡ Storing t → new.stage ≡ Storing u → new.marks ≡ old.marks → FindsFailed before after t u → Fits old events → Fits new events
-Fits-found old new t u before after events keep was is marks found f =
+-- a call that finds the transfer ended is no event
+pub Fits-noted : (old new : BookState) (t u : Transfer) (before after : Lane) (events : List CoreEvent) → new.keep ≡ old.keep → old.stage ≡ Storing t → new.stage ≡ Storing u → new.marks ≡ old.marks → NotesEnd before after t u → Fits old events → Fits new events
+Fits-noted old new t u before after events keep was is marks found f =
     let runs = runs_of old events t was f in
     record {
       legal = f.legal;
@@ -54,8 +54,8 @@ Fits-found old new t u before after events keep was is marks found f =
       transfer = subst (λ (s : Stage). IfSome (transfer_of s) (TellsTransfer events)) (sym is)
           (record {
             begun = runs.begun;
-            counts = λ none. absurd (not_there t.cause (sym found.cause ∙ none) found.failed);
-            failed = λ some. runs.failed found.failed;
+            counts = λ none. subst (CountsTransfer (since events)) (sym found.count) (runs.counts (sym found.cause ∙ none));
+            failed = λ some. runs.failed (subst (λ (o : Option Cause). IsSome o) found.cause some);
           });
       marks = λ some. subst (λ (l : List BookMark). AreMarks events l) (sym marks) (marks_of old events t was f);
     }

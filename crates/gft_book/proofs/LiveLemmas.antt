@@ -1,13 +1,13 @@
 -- What a lock knows stays true.
 use Rattle.std.proofs.Common.{◌≡◌, ◌⊎◌, ℕ, ◌+◌, ◌-◌, ◌^◌, ◌<◌, ◌≤◌, min, List, length, Some, None, Ok, Err, refl, sym, ap, ◌∙◌, subst, ⊎_elim, inl, inr, arith}
-use Rattle.std.specs.Prelude.{Option, Result, IsSome, IfSome, OnErr, OnOk, slice_get}
+use Rattle.std.specs.Prelude.{Bool, true, false, if◌then◌else◌, Option, Result, IsSome, IfSome, OnErr}
 use Rattle.std.proofs.lemmas.Option.{none-some}
 use Rattle.atomic_table.specs.Seated.{TableId}
 use Rattle.gft_base.specs.Words.{Rose}
 use Rattle.gft_range.specs.declared.Range.{Range}
 use Rattle.gft_range.specs.Words.{HasOffset}
 use Rattle.gft_drive.specs.Words.{DriveState, Image, MayLeave, Sent, total_of}
-use Rattle.gft_eod.specs.declared.EodError.{EodError}
+use Rattle.gft_eod.specs.Words.{eod_refusal, eof_refusal}
 use Rattle.gft_keep.specs.declared.KeepError.{KeepError}
 use Rattle.gft_keep.specs.declared.Standing.TheVariants.{Whole}
 use Rattle.gft_keep.specs.Words.{IsKeep, KeepState}
@@ -24,8 +24,8 @@ use Rattle.gft_book.specs.declared.transfer.Stage.TheVariants.{Rest, Reading, St
 use Rattle.gft_book.specs.Book.{BookState, InTransfer, IsLanePass, IsPass, IsRunning, Moving, Seen, book_of, cause_of, left_out, rest_of, transfer_of}
 use Rattle.gft_book.specs.Facts.{IsBook, IsTransfer, standing_after}
 use Rattle.gft_book.specs.Keeping.{Keeps, KeepsByte, NeverFalls, byte_read}
-use Rattle.gft_book.specs.Calls.{CallsOn, CarriesOn, FindsFailed, HasEodLeft, IsNext, IsOfSource, KeepsCause, KeepsFirst, RefusesBlock, RefusesEod, RefusesEof, SameTransfer, SendsBlock, SendsEod, SendsTotal, StopsBlock, StopsEod, StopsEof, TakesEod, TakesEof, cause_of_keep, one_eod, with_total}
-use Rattle.gft_book.specs.Live.{BlockIn, EodIn, IsLaneOf, IsLive, IsPassOf, IsStarted, KeptSince, Learns, SamePass, Start, TotalIn, start_at, start_now, start_of}
+use Rattle.gft_book.specs.Calls.{CallsOn, CarriesOn, FindsFailed, HasEodLeft, IsNext, IsOfSource, KeepsCause, KeepsFirst, NotesEnd, RefusesBlock, RefusesEod, RefusesEof, SameTransfer, SendsBlock, SendsEod, SendsTotal, StopsBlock, StopsEod, StopsEof, as_stopped, cause_of_keep}
+use Rattle.gft_book.specs.Live.{BlockIn, EodIn, IsLaneOf, IsLive, IsPassOf, IsStarted, KeptSince, Learns, LearnsCount, SamePass, Start, TotalIn, start_at, start_now, start_of}
 use Rattle.gft_book.proofs.ChoiceLemmas.{if_map, if_some, is_there, off, on_err}
 use Rattle.gft_book.proofs.KeepLemmas.{Keeps-same, held_byte}
 use Rattle.gft_book.proofs.TransferLemmas.{in_transfer, moved}
@@ -188,23 +188,33 @@ eod_fits sent start book pass live h =
     subst (λ (l : List ℕ). IfSome (sent l) (λ s. IfSome (rest_of book.stage) (λ r. HasEodLeft (s.orders r) pass))) (sym live.kept.label)
     (subst (λ (o : Option (List Range)). IfSome (sent start.label) (λ s. IfSome o (λ r. HasEodLeft (s.orders r) pass))) (sym (rest_now start book live)) h)
 
-abbrev CountLearns : Lane → Lane → Type 0
-CountLearns before after = Learns (λ cause. (error : EodError) × (cause ≡ cause_of_count error)) before.count after.count
+-- a lock whose Book finds that its transfer has ended, or that it goes on
+pub noted_count : (result : Bool) (old new : Stage) (before after : Lane) → (result ≡ true → after ≡ before) → (result ≡ false → Moving (NotesEnd before after) old new) → after.count ≡ (if result then before.count else as_stopped before.count)
+noted_count true old new before after same noted = ap (λ (p : Lane). p.count) (same refl)
+noted_count false old new before after same noted =
+    let m = moved (NotesEnd before after) old new (noted refl) in ap (λ (p : Lane). p.count) m.so.moves.pass
 
-pub learns_eof : {A : Type 0} → (r : Result A Stop) (old new : BookState) (before after : Lane) (total : ℕ) → OnErr r (Moving (StopsEof total before after) old.stage new.stage) → OnErr r (CountLearns before after)
+pub noted_pass : (result : Bool) (old new : Stage) (before after : Lane) → (result ≡ true → after ≡ before) → (result ≡ false → Moving (NotesEnd before after) old new) → SamePass before after
+noted_pass true old new before after same noted =
+    record { table = ap (λ (p : Lane). p.table) (same refl); lane = ap (λ (p : Lane). p.lane) (same refl) }
+noted_pass false old new before after same noted =
+    let m = moved (NotesEnd before after) old new (noted refl) in
+    record { table = ap (λ (p : Lane). p.table) m.so.moves.pass; lane = ap (λ (p : Lane). p.lane) m.so.moves.pass }
+
+pub learns_eof : {A : Type 0} → (r : Result A Stop) (old new : BookState) (before after : Lane) (total : ℕ) → OnErr r (Moving (StopsEof total before after) old.stage new.stage) → OnErr r (LearnsCount (λ count. eof_refusal count total) before.count after.count)
 learns_eof r old new before after total h =
     on_err r _ _ (λ (stops : Moving (StopsEof total before after) old.stage new.stage).
     let m = moved (StopsEof total before after) old.stage new.stage stops in
     ⊎_elim
     (λ (found : FindsFailed before after m.before m.after). inl (ap (λ (p : Lane). p.count) found.moves.pass))
-    (λ (no_ : RefusesEof total before after m.before m.after). inr (cause_of_count no_.error, (no_.error, refl), ap (λ (p : Lane). p.count) no_.fails.moves.pass))
+    (λ (no_ : RefusesEof total before after m.before m.after). inr (cause_of_count no_.error, record { count = m.before.count; error = no_.error; refused = no_.refused; kept = refl }, ap (λ (p : Lane). p.count) no_.fails.moves.pass))
     m.so) h
 
-pub learns_eod : {A : Type 0} → (r : Result A Stop) (old new : BookState) (before after : Lane) → OnErr r (Moving (StopsEod before after) old.stage new.stage) → OnErr r (CountLearns before after)
+pub learns_eod : {A : Type 0} → (r : Result A Stop) (old new : BookState) (before after : Lane) → OnErr r (Moving (StopsEod before after) old.stage new.stage) → OnErr r (LearnsCount eod_refusal before.count after.count)
 learns_eod r old new before after h =
     on_err r _ _ (λ (stops : Moving (StopsEod before after) old.stage new.stage).
     let m = moved (StopsEod before after) old.stage new.stage stops in
     ⊎_elim
     (λ (found : FindsFailed before after m.before m.after). inl (ap (λ (p : Lane). p.count) found.moves.pass))
-    (λ (no_ : RefusesEod before after m.before m.after). inr (cause_of_count no_.error, (no_.error, refl), ap (λ (p : Lane). p.count) no_.fails.moves.pass))
+    (λ (no_ : RefusesEod before after m.before m.after). inr (cause_of_count no_.error, record { count = m.before.count; error = no_.error; refused = no_.refused; kept = refl }, ap (λ (p : Lane). p.count) no_.fails.moves.pass))
     m.so) h

@@ -1,6 +1,6 @@
 -- The numbers of the passes, when those of one pass change.
 use Rattle.std.proofs.Common.{◌≡◌, ◌≢◌, ◌⊎◌, ℕ, ◌+◌, List, length, set, replicate, Some, None, true, refl, sym, ap, ◌∙◌, subst, ⊎_elim, inl, inr, arith}
-use Rattle.std.specs.Prelude.{Option, IsSome}
+use Rattle.std.specs.Prelude.{Option}
 use Rattle.std.proofs.lemmas.Option.{none-some}
 use mathlib.Core.Logic.{dite}
 use native.Mathlib.Decide.{ℕ_discrete}
@@ -9,7 +9,7 @@ use Rattle.gft_pass.specs.declared.Cause.{Cause}
 use Rattle.gft_pass.specs.declared.Numbers.{Numbers}
 use Rattle.gft_pass.specs.Words.{IsAt, causes, nothing, one}
 use Rattle.gft_pass.proofs.Lemmas.{IsAt-nothing, IsAt-other, IsAt-same, IsAt-set, IsAt-set_or, causes-nothing, length-set, sum_by-nothing, sum_by-set}
-use Rattle.gft_book.specs.Facts.{NumbersAgree}
+use Rattle.gft_book.specs.Facts.{IsEnded, NumbersAgree}
 use Rattle.gft_book.proofs.ChoiceLemmas.{off}
 
 -- ---- all facts of the numbers
@@ -22,8 +22,8 @@ pub record ChangesNumbers (last : Type 0) (n m : Numbers) (count now : Count) (c
   pub total : (total : ℕ) → count.total ≡ Some total → now.total ≡ Some total
   pub mine : (total : ℕ) → m.total ≡ Some total → now.total ≡ Some total
   pub told : (total : ℕ) → now.total ≡ Some total → (m.total ≡ Some total) ⊎ ((count.total ≡ Some total) × (m.total ≡ n.total))
-  pub stopped : m.stopped ≡ true → IsSome kept
-  pub still : IsSome cause → IsSome kept
+  pub stopped : m.stopped ≡ true → IsEnded now kept
+  pub still : IsEnded count cause → IsEnded now kept
 
 pub NumbersAgree-set : (counts : List Numbers) (k : ℕ) (n m : Numbers) (count now : Count) (cause kept : Option Cause)
     → IsAt counts k n → ChangesNumbers (k + 1 ≡ length counts) n m count now cause kept → causes (set counts k m) ≡ one kept

@@ -1,10 +1,11 @@
 -- A Book before and after `store`.
-use Rattle.std.proofs.Common.{◌≡◌, ◌⊎◌, ℕ, ◌+◌, ◌≤◌, List, length, Some, None, refl, sym, ap, ◌∙◌, subst, inl, inr, arith}
+use Rattle.std.proofs.Common.{◌≡◌, ◌⊎◌, ℕ, ◌+◌, ◌≤◌, List, length, Some, None, refl, sym, ap, ◌∙◌, subst, ⊎_elim, inl, inr, arith}
 use Rattle.std.specs.Prelude.{Option, IsSome, IfSome}
 use Rattle.std.proofs.lemmas.Option.{none-some}
 use Rattle.gft_base.specs.Words.{Rose}
 use Rattle.gft_range.specs.declared.Range.{Range}
 use Rattle.gft_drive.specs.Words.{Image, Sent}
+use Rattle.gft_eod.specs.Words.{IsMet}
 use Rattle.gft_keep.specs.declared.Standing.{Standing}
 use Rattle.gft_keep.specs.declared.Standing.TheVariants.{Whole, Emptying, Torn}
 use Rattle.gft_keep.specs.declared.KeepError.{KeepError}
@@ -19,18 +20,18 @@ use Rattle.gft_pass.specs.Words.{Lane, Ledger}
 use Rattle.gft_pass.proofs.Lemmas.{length-set}
 use Rattle.gft_book.specs.declared.transfer.Transfer.{Transfer}
 use Rattle.gft_book.specs.declared.transfer.Stage.{Stage}
-use Rattle.gft_book.specs.declared.transfer.Stage.TheVariants.{Storing, Reading}
-use Rattle.gft_book.specs.Book.{BookState, IsLanePass, Moving, cause_of, transfer_of}
+use Rattle.gft_book.specs.declared.transfer.Stage.TheVariants.{Rest, Storing, Reading}
+use Rattle.gft_book.specs.Book.{BookState, HasKeptCause, HasMetTotal, IsLanePass, IsPass, Moving, cause_of, transfer_of}
 use Rattle.gft_book.specs.Keeping.{Keeps, NeverFalls}
-use Rattle.gft_book.specs.Facts.{ImagesAreFrom, IsBook, IsTransfer, MarksHold, standing_after}
+use Rattle.gft_book.specs.Facts.{ImagesAreFrom, IsBook, IsEnded, IsTransfer, MarksHold, standing_after}
 use Rattle.gft_book.specs.Fits.{Fits, StoresEvents, if_running, store_events}
 use Rattle.gft_drive.specs.Words.{DriveState}
 use Rattle.gft_book.specs.Book.{Seen, book_of, up_to_last}
-use Rattle.gft_book.specs.Calls.{CallsOn, ChangesPass, CarriesOn, FindsFailed, KeepsCause, RunsOn, SameTransfer, SendsBlock, cause_of_keep, more_bytes, turns_after}
+use Rattle.gft_book.specs.Calls.{CallsOn, ChangesPass, CarriesOn, FindsEnded, FindsFailed, KeepsCause, NotesEnd, RunsOn, SameTransfer, SendsBlock, cause_of_keep, more_bytes, turns_after}
 use Rattle.gft_book.proofs.ChoiceLemmas.{not_there, off}
 use Rattle.gft_book.proofs.KeepLemmas.{IsReadImage, Keeps-by, Keeps-same, has_same, stores_held, union_old}
-use Rattle.gft_book.proofs.TransferLemmas.{IsTransfer-found, IsTransfer-refused, IsTransfer-stored, MarksHold-more, honest_in, in_transfer, moved, moving, origin-store, storing_reads, transfer_is}
-use Rattle.gft_book.proofs.FitLemmas.{Fits-found, Fits-refused, Fits-stored, SameUnless, cut_legal}
+use Rattle.gft_book.proofs.TransferLemmas.{IsTransfer-noted, IsTransfer-refused, IsTransfer-stored, MarksHold-more, honest_in, in_transfer, moved, moving, origin-store, storing_reads, transfer_is}
+use Rattle.gft_book.proofs.FitLemmas.{Fits-noted, Fits-refused, Fits-stored, SameUnless, cut_legal}
 
 -- a transfer's facts, put back into its stage
 with_stage : (sent : List ℕ → Option Sent) (keep : KeepState) (stage : Stage) (t : Transfer) → stage ≡ Storing t → IsTransfer sent keep t → IfSome (transfer_of stage) (IsTransfer sent keep)
@@ -63,10 +64,28 @@ same_transfer m before after t u moves =
 
 -- ---- the transfer had failed
 
-pub IsBook-found : (sent : List ℕ → Option Sent) (old new : BookState) (before after : Lane) → IsBook sent old → Moving (FindsFailed before after) old.stage new.stage → new.keep ≡ old.keep → new.marks ≡ old.marks → IsBook sent new
-IsBook-found sent old new before after b moving keep marks =
-    let m = moved (FindsFailed before after) old.stage new.stage moving in
-    let t = IsTransfer-found sent old.keep m.before m.after before after m.so (transfer_is sent old m.before m.was b) in
+-- a transfer that a call finds failed, or met
+notes_of : (before after : Lane) (t u : Transfer) → FindsFailed before after t u → NotesEnd before after t u
+notes_of before after t u f = record { moves = f.moves; count = f.count; cause = f.cause }
+
+found_notes : (before after : Lane) (old new : Stage) → Moving (FindsFailed before after) old new → Moving (NotesEnd before after) old new
+found_notes before after old new found =
+    let m = moved (FindsFailed before after) old new found in
+    moving (NotesEnd before after) old new m.before m.after m.was m.is (notes_of before after m.before m.after m.so)
+
+met_in : (stage : Stage) (t : Transfer) → stage ≡ Storing t → HasMetTotal stage → IsMet t.count
+met_in stage t is h = subst HasMetTotal is h
+
+ended_in : (stage : Stage) (t : Transfer) → stage ≡ Storing t → HasKeptCause stage ⊎ HasMetTotal stage → IsEnded t.count t.cause
+ended_in stage t is h = ⊎_elim
+    (λ (kept : HasKeptCause stage). inl (subst (λ (o : Option Cause). IsSome o) (cause_in stage t is) kept))
+    (λ (met : HasMetTotal stage). inr (met_in stage t is met))
+    h
+
+pub IsBook-noted : (sent : List ℕ → Option Sent) (old new : BookState) (before after : Lane) → IsBook sent old → FindsEnded before after old.stage new.stage → new.keep ≡ old.keep → new.marks ≡ old.marks → IsBook sent new
+IsBook-noted sent old new before after b found keep marks =
+    let m = moved (NotesEnd before after) old.stage new.stage found.notes in
+    let t = IsTransfer-noted sent old.keep m.before m.after before after (ended_in old.stage m.before m.was found.ended) m.so (transfer_is sent old m.before m.was b) in
     record {
       keep = subst IsKeep (sym keep) b.keep;
       marks = subst (λ k. MarksHold k new.marks) (sym keep) (subst (λ l. MarksHold old.keep l) (sym marks) b.marks);
@@ -74,6 +93,12 @@ IsBook-found sent old new before after b moving keep marks =
       transfer = with_stage sent new.keep new.stage m.after m.is (subst (λ k. IsTransfer sent k m.after) (sym keep) t);
       reading = never_reading new.stage m.after m.is;
     }
+
+pub IsBook-found : (sent : List ℕ → Option Sent) (old new : BookState) (before after : Lane) → IsBook sent old → Moving (FindsFailed before after) old.stage new.stage → new.keep ≡ old.keep → new.marks ≡ old.marks → IsBook sent new
+IsBook-found sent old new before after b found keep marks =
+    let m = moved (FindsFailed before after) old.stage new.stage found in
+    let failed = subst (λ (o : Option Cause). IsSome o) (sym (cause_in old.stage m.before m.was)) m.so.failed in
+    IsBook-noted sent old new before after b (record { ended = inl failed; notes = found_notes before after old.stage new.stage found }) keep marks
 
 pub CarriesOn-same : (sent : List ℕ → Option Sent) (old new : BookState) → IsBook sent old → Moving SameTransfer old.stage new.stage → new.keep ≡ old.keep → new.last ≡ old.last
     → (cause_of new.stage ≡ Some DriveFailed → cause_of old.stage ≡ Some DriveFailed) → CarriesOn old new
@@ -90,10 +115,29 @@ CarriesOn-same sent old new b moving keep last failed =
 block_keeps : (keep : KeepState) (offset : ℕ) (bytes : List ℕ) (from image : Image) → IsReadImage keep from → StoresSome offset bytes from image → (x v : ℕ) → held from x ≡ Some v → held image x ≡ Some v
 block_keeps keep offset bytes from image read s x v here = (stores_held keep offset bytes from image read s).kept x v here
 
-found_same : (before after : Lane) (old new : Stage) → Moving (FindsFailed before after) old new → Moving SameTransfer old new
-found_same before after old new found =
-    let m = moved (FindsFailed before after) old new found in
+noted_same : (before after : Lane) (old new : Stage) → Moving (NotesEnd before after) old new → Moving SameTransfer old new
+noted_same before after old new noted =
+    let m = moved (NotesEnd before after) old new noted in
     moving SameTransfer old new m.before m.after m.was m.is (same_transfer _ before after m.before m.after m.so.moves)
+
+-- a call that changes nothing
+pub CarriesOn-still : (sent : List ℕ → Option Sent) (book : BookState) (pass : Lane) → IsBook sent book → IsPass book.stage pass → CarriesOn book book
+CarriesOn-still sent book pass b mine = CarriesOn-same sent book book b (still_moving book.stage mine) refl refl (λ is. is)
+  where
+    still_moving : (stage : Stage) → IsPass stage pass → Moving SameTransfer stage stage
+    still_moving (Storing t) there = record { table = refl; passes = refl; how = refl }
+    still_moving Rest there = absurd there
+    still_moving (Reading n) there = absurd there
+
+-- a call that finds it ended
+pub CarriesOn-noted : (sent : List ℕ → Option Sent) (old new : BookState) (before after : Lane) → IsBook sent old → FindsEnded before after old.stage new.stage → new.keep ≡ old.keep → new.last ≡ old.last → CarriesOn old new
+CarriesOn-noted sent old new before after b found keep last =
+    let m = moved (NotesEnd before after) old.stage new.stage found.notes in
+    let cause : cause_of new.stage ≡ cause_of old.stage = cause_in new.stage m.after m.is ∙ m.so.cause ∙ sym (cause_in old.stage m.before m.was) in
+    CarriesOn-same sent old new b (noted_same before after old.stage new.stage found.notes) keep last (λ is. sym cause ∙ is)
+
+found_same : (before after : Lane) (old new : Stage) → Moving (FindsFailed before after) old new → Moving SameTransfer old new
+found_same before after old new found = noted_same before after old new (found_notes before after old new found)
 
 found_cause : (before after : Lane) (old new : Stage) → Moving (FindsFailed before after) old new → (cause_of new ≡ cause_of old) × IsSome (cause_of old)
 found_cause before after old new found =
@@ -285,6 +329,12 @@ Fits-refuse unchanged sent old new before after offset bytes error b same by r m
       cut_short = λ _ told image left. cut_legal old new.keep before.lane offset bytes events s.whole b.keep by f told image left;
     }
 
+-- the events of a call that found the transfer ended: none
+pub Fits-noted_stage : (old new : BookState) (before after : Lane) → Moving (NotesEnd before after) old.stage new.stage → new.keep ≡ old.keep → new.marks ≡ old.marks → (events : List CoreEvent) → Fits old events → Fits new events
+Fits-noted_stage old new before after noted keep marks events f =
+    let m = moved (NotesEnd before after) old.stage new.stage noted in
+    Fits-noted old new m.before m.after before after events keep m.was m.is marks m.so f
+
 -- the events of a call that found the transfer failed
 pub Fits-stopped : (old new : BookState) (before after : Lane) → Moving (FindsFailed before after) old.stage new.stage → new.keep ≡ old.keep → new.marks ≡ old.marks
     → (more : List CoreEvent) (events : List CoreEvent) → Fits old events → Fits new (if_running (cause_of old.stage) more events)
@@ -293,7 +343,7 @@ Fits-stopped old new before after moving keep marks more events f =
     no_event (cause_of old.stage) (subst (λ (o : Option Cause). IsSome o) (sym (cause_in old.stage m.before m.was)) m.so.failed)
   where
     here : Fits new events
-    here = let m = moved (FindsFailed before after) old.stage new.stage moving in Fits-found old new m.before m.after before after events keep m.was m.is marks m.so f
+    here = Fits-noted_stage old new before after (found_notes before after old.stage new.stage moving) keep marks events f
 
     no_event : (o : Option Cause) → IsSome o → Fits new (if_running o more events)
     no_event (Some c) there = here

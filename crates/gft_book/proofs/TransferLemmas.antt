@@ -20,8 +20,8 @@ use Rattle.gft_book.specs.declared.transfer.Transfer.{Transfer}
 use Rattle.gft_book.specs.declared.transfer.Stage.{Stage}
 use Rattle.gft_book.specs.declared.transfer.Stage.TheVariants.{Rest, Reading, Storing}
 use Rattle.gft_book.specs.Book.{BookState, InTransfer, Moving, left_out, rest_of, transfer_of}
-use Rattle.gft_book.specs.Facts.{ImagesAreFrom, IsBook, IsFrom, IsHonestCause, IsSentBy, IsTransfer, MarksHold, NumbersAgree, ShowsCause, standing_after}
-use Rattle.gft_book.specs.Calls.{ChangesPass, FindsFailed, IsNext, IsOfSource, KeepsCause, RunsOn, SendsBlock, as_stopped, cause_of_keep, more_bytes, with_cause}
+use Rattle.gft_book.specs.Facts.{ImagesAreFrom, IsBook, IsEnded, IsFrom, IsHonestCause, IsSentBy, IsTransfer, MarksHold, NumbersAgree, ShowsCause, standing_after}
+use Rattle.gft_book.specs.Calls.{ChangesPass, IsNext, IsOfSource, KeepsCause, NotesEnd, RunsOn, SendsBlock, as_stopped, cause_of_keep, more_bytes, with_cause}
 use Rattle.gft_book.proofs.ChoiceLemmas.{if_make, if_map, if_some, is_there, not_there, some_there}
 use Rattle.gft_book.proofs.NumbersLemmas.{ChangesNumbers, NumbersAgree-set}
 use Rattle.gft_book.proofs.KeepLemmas.{byte_inside, has_same, image_since, union_new, union_old, whole_read}
@@ -103,9 +103,14 @@ IsTransfer-set sent old new t u before after m moves label standing born complet
 pub transfer_is : (sent : List ℕ → Option Sent) (book : BookState) (t : Transfer) → book.stage ≡ Storing t → IsBook sent book → IsTransfer sent book.keep t
 transfer_is sent book t is b = if_some (transfer_of book.stage) (IsTransfer sent book.keep) t (ap transfer_of is) b.transfer
 
--- a call that finds the transfer failed
-pub IsTransfer-found : (sent : List ℕ → Option Sent) (keep : KeepState) (t u : Transfer) (before after : Lane) → FindsFailed before after t u → IsTransfer sent keep t → IsTransfer sent keep u
-IsTransfer-found sent keep t u before after f i =
+-- an end is one while the count and the cause stay
+pub ended_still : (t u : Transfer) → u.count ≡ t.count → u.cause ≡ t.cause → IsEnded t.count t.cause → IsEnded u.count u.cause
+ended_still t u count cause ended =
+    subst (λ (c : Count). IsEnded c u.cause) (sym count) (subst (λ (o : Option Cause). IsEnded t.count o) (sym cause) ended)
+
+-- a call that finds the transfer ended
+pub IsTransfer-noted : (sent : List ℕ → Option Sent) (keep : KeepState) (t u : Transfer) (before after : Lane) → IsEnded t.count t.cause → NotesEnd before after t u → IsTransfer sent keep t → IsTransfer sent keep u
+IsTransfer-noted sent keep t u before after ended f i =
     let same_eods : u.count.eods ≡ t.count.eods = ap (λ (c : Count). c.eods) f.count in
     let same_total : u.count.total ≡ t.count.total = ap (λ (c : Count). c.total) f.count in
     IsTransfer-set sent keep keep t u before after (as_stopped before.count) f.moves refl
@@ -117,8 +122,8 @@ IsTransfer-found sent keep t u before after f i =
       total = λ n is. same_total ∙ is;
       mine = λ n is. same_total ∙ i.numbers.totals before.lane n before.count f.moves.listed is;
       told = λ n is. inr (sym same_total ∙ is, refl);
-      stopped = λ is. subst (λ (o : Option Cause). IsSome o) (sym f.cause) f.failed;
-      still = λ is. subst (λ (o : Option Cause). IsSome o) (sym f.cause) is;
+      stopped = λ is. ended_still t u f.count f.cause ended;
+      still = λ is. ended_still t u f.count f.cause is;
     }
     (causes-set t.roster.counts before.lane before.count (as_stopped before.count) f.moves.listed refl ∙ i.numbers.causes ∙ ap one (sym f.cause))
     (λ s is rest of h. (
@@ -149,8 +154,8 @@ IsTransfer-stored sent old new t u before after offset bytes added r lane block 
       total = λ n is. same_total ∙ is;
       mine = λ n is. same_total ∙ i.numbers.totals before.lane n before.count r.moves.listed is;
       told = λ n is. inr (sym same_total ∙ is, refl);
-      stopped = λ is. absurd (not_there t.cause r.running (i.numbers.stopped before.lane before.count r.moves.listed is));
-      still = λ is. absurd (not_there t.cause r.running is);
+      stopped = λ is. ended_still t u r.count (r.cause ∙ sym r.running) (i.numbers.stopped before.lane before.count r.moves.listed is);
+      still = λ is. ended_still t u r.count (r.cause ∙ sym r.running) is;
     }
     (causes-set t.roster.counts before.lane before.count (more_bytes (length bytes) before.count) r.moves.listed refl ∙ i.numbers.causes ∙ ap one (r.running ∙ sym r.cause))
     (λ s is rest of h. (
@@ -205,8 +210,8 @@ IsTransfer-refused unchanged sent old new t u before after offset bytes error f 
       total = λ n is. same_total ∙ is;
       mine = λ n is. same_total ∙ i.numbers.totals before.lane n before.count f.moves.listed is;
       told = λ n is. inr (sym same_total ∙ is, refl);
-      stopped = λ is. some_there u.cause (cause_of_keep error) f.kept;
-      still = λ is. some_there u.cause (cause_of_keep error) f.kept;
+      stopped = λ is. inl (some_there u.cause (cause_of_keep error) f.kept);
+      still = λ is. inl (some_there u.cause (cause_of_keep error) f.kept);
     }
     (causes-first t.roster.counts before.lane before.count m (cause_of_keep error) none f.moves.listed refl ∙ ap one (sym f.kept))
     (λ s is rest of h. (

@@ -17,7 +17,9 @@ use Rattle.gft_pass.specs.declared.Numbers.{Numbers}
 use Rattle.gft_pass.specs.Words.{IsAt, Lane, cause_of_count}
 use Rattle.gft_book.specs.declared.mark.Mark.{Mark}
 use Rattle.gft_book.specs.declared.transfer.Transfer.{Transfer}
-use Rattle.gft_book.specs.Book.{BookState, HasKeptCause, Moving, Seen, book_of, cause_of, rest_of, up_to_last}
+use Rattle.gft_book.specs.declared.transfer.Stage.{Stage}
+use Rattle.gft_book.specs.Book.{BookState, HasKeptCause, HasMetTotal, IsRunning, Moving, Seen, book_of, cause_of}
+use Rattle.gft_book.specs.Book.{rest_of, up_to_last}
 use Rattle.gft_book.specs.Keeping.{Keeps}
 
 -- ---- what honest senders hand in
@@ -104,6 +106,12 @@ pub record FindsFailed (before after : Lane) (old new : Transfer) : Type 0 where
   pub count : new.count ≡ old.count
   pub cause : new.cause ≡ old.cause
 
+-- the pass notes that the transfer has ended, and nothing else changes
+pub record NotesEnd (before after : Lane) (old new : Transfer) : Type 0 where
+  pub moves : ChangesPass (as_stopped before.count) before after old new
+  pub count : new.count ≡ old.count
+  pub cause : new.cause ≡ old.cause
+
 -- what each call with a pass, and a mark, leaves: this transfer, all that is kept, and the table of the last
 -- one. A failed drive has its fault
 pub record SameTransfer (old new : Transfer) : Type 0 where
@@ -130,6 +138,28 @@ pub record CallsOn {D : Type 0} (state : D → DriveState) (old new : Seen D) : 
   pub turns : new.turns ≡ turns_after (cause_of old.stage) old.turns
   pub marks : new.marks ≡ old.marks
   pub untouched : HasKeptCause old.stage → new.keep ≡ old.keep
+
+-- ---- awaits_more
+
+-- all is as before but for what the file is used for
+pub record StageOnly {D : Type 0} (old new : Seen D) : Type 0 where
+  pub keep : new.keep ≡ old.keep
+  pub last : new.last ≡ old.last
+  pub marks : new.marks ≡ old.marks
+  pub unmarked : new.unmarked ≡ old.unmarked
+  pub turns : new.turns ≡ old.turns
+
+-- the transfer runs, and not all EODs came: nothing changes
+pub record AwaitsMore {D : Type 0} (before after : Lane) (old new : Seen D) : Type 0 where
+  pub running : IsRunning old.stage
+  pub unmet : ¬ HasMetTotal old.stage
+  pub same : new ≡ old
+  pub pass : after ≡ before
+
+-- it failed, or all came, and the pass notes it
+pub record FindsEnded (before after : Lane) (old new : Stage) : Type 0 where
+  pub ended : HasKeptCause old ⊎ HasMetTotal old
+  pub notes : Moving (NotesEnd before after) old new
 
 -- ---- store
 

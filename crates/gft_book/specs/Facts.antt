@@ -5,7 +5,7 @@ use Rattle.gft_range.specs.declared.Range.{Range}
 use Rattle.gft_range.specs.declared.TheConstants.{MAX_ITEMS}
 use Rattle.gft_range.specs.Words.{HasOffset}
 use Rattle.gft_eod.specs.declared.TheConstants.{MAX_EODS}
-use Rattle.gft_eod.specs.Words.{Count, IsCount}
+use Rattle.gft_eod.specs.Words.{Count, IsCount, IsMet}
 use Rattle.gft_drive.specs.declared.TheConstants.{MAX_RANGES}
 use Rattle.gft_drive.specs.Words.{Image, IsBorn, IsComplete, Orders, Sent, total_of}
 use Rattle.gft_keep.specs.declared.Standing.{Standing}
@@ -39,6 +39,10 @@ pub record MarksHold (keep : KeepState) (marks : List Mark) : Type 0 where
 
 -- ---- numbers of the passes
 
+-- the transfer takes nothing more: a cause is kept, or all EODs came that were announced
+abbrev pub IsEnded : Count → Option Cause → Type 0
+IsEnded count cause = IsSome cause ⊎ IsMet count
+
 pub record NumbersAgree (counts : List Numbers) (count : Count) (cause : Option Cause) : Type 0 where
   pub within : IsCount count
   -- the last pass is the teller's, and sends nothing
@@ -53,8 +57,8 @@ pub record NumbersAgree (counts : List Numbers) (count : Count) (cause : Option 
       → (k : ℕ) × ((n : Numbers) × IsAt counts k n × (n.total ≡ Some total))
   -- a kept cause stands in one pass's numbers, and in no others
   pub causes : causes counts ≡ one cause
-  -- a call finds the transfer failed only if a cause is kept
-  pub stopped : (k : ℕ) (n : Numbers) → IsAt counts k n → n.stopped ≡ true → IsSome cause
+  -- a call finds the transfer ended only if it has
+  pub stopped : (k : ℕ) (n : Numbers) → IsAt counts k n → n.stopped ≡ true → IsEnded count cause
 
 -- ---- the origin's bytes
 

@@ -6,12 +6,14 @@ use Rattle.gft_base.specs.Words.{Rose}
 use Rattle.gft_range.specs.declared.Range.{Range}
 use Rattle.gft_range.specs.Words.{HasOffset}
 use Rattle.gft_drive.specs.Words.{Image, Sent, total_of}
+use Rattle.gft_eod.specs.Words.{Count}
+use Rattle.gft_eod.specs.declared.EodError.{EodError}
 use Rattle.gft_keep.specs.Words.{KeepState}
 use Rattle.gft_core.specs.Words.{held}
 use Rattle.gft_pass.specs.declared.Cause.{Cause}
 use Rattle.gft_pass.specs.declared.Cause.TheVariants.{DriveFailed}
 use Rattle.gft_pass.specs.declared.Numbers.{Numbers}
-use Rattle.gft_pass.specs.Words.{Lane}
+use Rattle.gft_pass.specs.Words.{Lane, cause_of_count}
 use Rattle.gft_book.specs.declared.usage.How.{How}
 use Rattle.gft_book.specs.declared.usage.How.TheVariants.{Esto}
 use Rattle.gft_book.specs.declared.transfer.Transfer.{Transfer}
@@ -128,3 +130,13 @@ pub record SamePass (before after : Lane) : Type 0 where
 abbrev pub Learns : (Cause → Type 0) → Numbers → Numbers → Type 0
 Learns P before after =
     (after ≡ as_stopped before) ⊎ ((cause : Cause) × P cause × (after ≡ with_cause cause before))
+
+-- the cause is the one as which a count's refusal is kept
+pub record IsRefusalOf (refusal : Count → Option EodError) (cause : Cause) : Type 0 where
+  pub count : Count
+  pub error : EodError
+  pub refused : refusal count ≡ Some error
+  pub kept : cause ≡ cause_of_count error
+
+abbrev pub LearnsCount : (Count → Option EodError) → Numbers → Numbers → Type 0
+LearnsCount refusal before after = Learns (IsRefusalOf refusal) before after

@@ -1,12 +1,12 @@
-ghost use Rattle.std.specs.Prelude.{◌≡◌, length, OnOk, OnErr};
+ghost use Rattle.std.specs.Prelude.{◌≡◌, length, OnOk, OnErr, Some, if◌then◌else◌};
 ghost use Rattle.gft_drive.specs.Words.{sent_by};
-ghost use Rattle.gft_eod.specs.declared.EodError.{EodError};
+ghost use Rattle.gft_eod.specs.Words.{Count, eod_refusal, eof_refusal};
 ghost use Rattle.gft_keep.specs.declared.KeepError.{KeepError};
 ghost use Rattle.gft_keep.specs.Words.{IsBlock};
-ghost use Rattle.gft_pass.specs.Words.{cause_of_count};
 ghost use Rattle.gft_book.specs.Book.{book_of};
-ghost use Rattle.gft_book.specs.Calls.{IsOutside, cause_of_keep, more_bytes, one_eod, with_total};
-ghost use Rattle.gft_book.specs.Live.{BlockIn, EodIn, IsLaneOf, IsLive, IsPassOf, Learns, SamePass, TotalIn};
+ghost use Rattle.gft_book.specs.Calls.{IsOutside, as_stopped, cause_of_keep, more_bytes, one_eod, with_total};
+ghost use Rattle.gft_book.specs.Live.{BlockIn, EodIn, IsLaneOf, IsLive, IsPassOf, Learns, LearnsCount};
+ghost use Rattle.gft_book.specs.Live.{SamePass, TotalIn};
 
 use crate::book::Book;
 use crate::cause::Stop;
@@ -70,6 +70,24 @@ impl<D: Drive + Drop, O: Origin, N: Run> Live<D, O, N> {
         self.book
     }
 
+    /// `Book::awaits_more`, for a mover that knows its transfer by the type of the lock.
+    pub fn awaits_more(&mut self, pass: &mut Pass) -> bool
+        requires pass { IsPassOf N.start pass.old }
+        ensures pass { SamePass pass.old pass.new }
+        ensures noted { pass.new.count ≡ (if result then pass.old.count else as_stopped pass.old.count) }
+        ensures turns { self.new.turns ≡ self.old.turns }
+    {
+        self.book.facts();
+        self.book.awaits_more(pass)
+    }
+
+    /// `Book::turns`.
+    pub fn turns(&self) -> u64
+        ensures { result ≡ self.now.turns }
+    {
+        self.book.turns()
+    }
+
     /// `Book::store`, for a mover that knows its transfer by the type of the lock.
     pub fn store(&mut self, pass: &mut Pass, offset: u64, bytes: &[u8]) -> Result<u64, Stop>
         requires pass { IsLaneOf N.start pass.old }
@@ -92,8 +110,8 @@ impl<D: Drive + Drop, O: Origin, N: Run> Live<D, O, N> {
         requires honest { TotalIn (sent_by O.source O.orders O.fit) N.start total }
         ensures pass { SamePass pass.old pass.new }
         ensures taken { OnOk result (pass.new.count ≡ with_total total pass.old.count) }
-        ensures stopped { OnErr result (Learns (λ cause. (error : EodError) × (cause ≡ cause_of_count error))
-            pass.old.count pass.new.count) }
+        ensures stopped { OnErr result (LearnsCount (λ count. eof_refusal count total) pass.old.count
+            pass.new.count) }
     {
         self.book.facts();
         let answer = self.book.eof(pass, total);
@@ -107,8 +125,7 @@ impl<D: Drive + Drop, O: Origin, N: Run> Live<D, O, N> {
         requires honest { EodIn (sent_by O.source O.orders O.fit) N.start pass.old }
         ensures pass { SamePass pass.old pass.new }
         ensures taken { OnOk result (pass.new.count ≡ one_eod pass.old.count) }
-        ensures stopped { OnErr result (Learns (λ cause. (error : EodError) × (cause ≡ cause_of_count error))
-            pass.old.count pass.new.count) }
+        ensures stopped { OnErr result (LearnsCount eod_refusal pass.old.count pass.new.count) }
     {
         self.book.facts();
         let answer = self.book.eod(pass);

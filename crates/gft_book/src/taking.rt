@@ -1,10 +1,11 @@
-ghost use Rattle.std.specs.Prelude.{◌≡◌, List, ◌∷◌, IfOk, OnErr, OnOk};
+ghost use Rattle.std.specs.Prelude.{◌≡◌, List, ◌∷◌, IfOk, OnErr, OnOk, true, false};
 ghost use Rattle.gft_core.specs.declared.CoreEvent.{CoreEvent};
 ghost use Rattle.gft_core.specs.declared.CoreEvent.TheVariants as event;
 ghost use Rattle.gft_drive.specs.Words.{sent_by};
 ghost use Rattle.gft_keep.specs.Words.{IsBlock};
 ghost use Rattle.gft_book.specs.Book.{IsLanePass, IsPass, Moving, book_of, cause_of};
-ghost use Rattle.gft_book.specs.Calls.{CallsOn, IsOutside, KeepsFirst, SendsBlock, SendsEod, SendsTotal};
+ghost use Rattle.gft_book.specs.Calls.{AwaitsMore, CallsOn, CarriesOn, FindsEnded, IsOutside, KeepsFirst};
+ghost use Rattle.gft_book.specs.Calls.{SendsBlock, SendsEod, SendsTotal, StageOnly};
 ghost use Rattle.gft_book.specs.Calls.{StopsBlock, StopsEod, StopsEof, TakesBlock, TakesEod, TakesEof};
 ghost use Rattle.gft_book.specs.Fits.{Fits, StoresEvents, failure_of, if_running};
 
@@ -14,6 +15,24 @@ use gft_drive::{Drive, Origin};
 use gft_pass::{Cause, Pass};
 
 impl<D: Drive + Drop, O: Origin> Book<D, O> {
+    /// Whether the transfer runs, and not all EODs were taken. If not, whoever has the pass takes nothing
+    /// more, and the pass notes it. This is no turn.
+    pub fn awaits_more(&mut self, pass: &mut Pass) -> bool
+        requires pass { IsPass self.old.stage pass.old }
+        ensures awaits { result ≡ true → AwaitsMore pass.old pass.new self.old self.new }
+        ensures ended { result ≡ false → FindsEnded pass.old pass.new self.old.stage self.new.stage }
+        ensures only { StageOnly self.old self.new }
+        ensures carries_on { CarriesOn (book_of D.state self.old) (book_of D.state self.new) }
+        ensures events { (events : List CoreEvent) → Fits (book_of D.state self.old) events
+            → Fits (book_of D.state self.new) events }
+    {
+        if !self.stage.has_ended() {
+            return true;
+        }
+        self.stage.note(pass);
+        false
+    }
+
     /// Stores a block of a lane, and tells how many of its bytes are new. A byte that was kept stays.
     ///
     /// `Stop` if the transfer had failed, or fails in this call: the keep takes no more ranges, memory was

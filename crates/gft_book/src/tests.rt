@@ -408,20 +408,32 @@ fn a_drive_that_failed_once_has_what_was_marked(rt: HostRuntime) -> Result<(), F
     Ok(())
 }
 
-/// Makes calls through the lock of a transfer, and tells which were `Ok`.
+/// Makes calls through the lock of a transfer, and tells which were `Ok`, whether it awaits more before the
+/// EOD and behind it, and whether it has had four turns.
 fn call_locked<D: Drive + Drop, N: Run, R: Wait>(
     rt: &R,
     book: &Shared<D, Unknown, N>,
     pass: &mut Pass,
-) -> [bool; 4]
+) -> [bool; 7]
     requires { IsLaneOf N.start pass.old }
 {
     let stores = book.lock(rt).store(pass, 0, b"hello").is_ok();
     let announces = book.lock(rt).eof(pass, 1).is_ok();
+    let awaits = book.lock(rt).awaits_more(pass);
     let ends = book.lock(rt).eod(pass).is_ok();
+    let awaits_still = book.lock(rt).awaits_more(pass);
     book.lock(rt).fail(pass, Cause::Aborted);
     let goes_on = book.lock(rt).store(pass, 5, b"world").is_ok();
-    [stores, announces, ends, goes_on]
+    let turns = book.lock(rt).turns();
+    [
+        stores,
+        announces,
+        awaits,
+        ends,
+        awaits_still,
+        goes_on,
+        turns == 4,
+    ]
 }
 
 /// Lends a Book under its lock, and a pass, to another thread.
@@ -429,7 +441,7 @@ fn lend<D: Drive + Drop + Send, N: Run + Send + Sync, R: Threads + Wait + Sync>(
     rt: &R,
     book: Book<D, Unknown>,
     pass: &mut Pass,
-) -> (Book<D, Unknown>, [bool; 4])
+) -> (Book<D, Unknown>, [bool; 7])
     requires live { IsLive N.start (book_of D.state book) }
     requires pass { IsLaneOf N.start pass.old }
 {
@@ -450,11 +462,11 @@ fn lend_first<D: Drive + Drop + Send, R: Threads + Wait + Sync>(
     rt: &R,
     book: Book<D, Unknown>,
     passes: &mut Vec<Pass>,
-) -> (Book<D, Unknown>, [bool; 4])
+) -> (Book<D, Unknown>, [bool; 7])
     requires { HasAllPasses book.stage passes.old.items }
 {
     if passes.len() < 2 {
-        return (book, [false; 4]);
+        return (book, [false; 7]);
     }
     if book.running() {
         if let Some(pass) = passes.get_mut(0) {
@@ -462,7 +474,7 @@ fn lend_first<D: Drive + Drop + Send, R: Threads + Wait + Sync>(
             return lend::<D, Brand, R>(rt, book, pass);
         }
     }
-    (book, [false; 4])
+    (book, [false; 7])
 }
 
 #[test]
@@ -470,7 +482,7 @@ fn a_book_is_lent_to_another_thread(rt: HostRuntime) -> Result<(), Fail> {
     let mut book = new_book(rt.alloc(), &[])?;
     let mut passes = begin(&mut book, How::Fresh)?;
     let (book, told) = lend_first(&rt, book, &mut passes);
-    assert_eq!(rt; told, [true, true, true, false]);
+    assert_eq!(rt; told, [true, true, true, true, false, false, true]);
     assert!(rt; book.met() && !book.running());
     Ok(())
 }

@@ -1,7 +1,8 @@
-ghost use Rattle.std.specs.Prelude.{◌≡◌, None, OnOk, OnErr, IsSome, MatchOption};
+ghost use Rattle.std.specs.Prelude.{◌≡◌, ◌⊎◌, None, OnOk, OnErr, IsSome, MatchOption, true, false};
 ghost use Rattle.std.specs.Option.{is_some};
-ghost use Rattle.gft_book.specs.Book.{HasKeptCause, IsPass, Moving, cause_of};
-ghost use Rattle.gft_book.specs.Calls.{FindsFailed, KeepsCause, RefusesEod, RefusesEof, RunsOn};
+ghost use Rattle.gft_book.specs.Book.{HasKeptCause, HasMetTotal, IsPass, IsRunning, IsStoring, Moving};
+ghost use Rattle.gft_book.specs.Book.{cause_of};
+ghost use Rattle.gft_book.specs.Calls.{FindsFailed, KeepsCause, NotesEnd, RefusesEod, RefusesEof, RunsOn};
 ghost use Rattle.gft_book.specs.Calls.{TakesEod, TakesEof, more_bytes};
 ghost use Rattle.gft_book.specs.Ending.{EndsFailed, MissesNothing};
 
@@ -41,6 +42,18 @@ impl Stage {
         }
     }
 
+    /// Whether the transfer failed, or all EODs came that were announced.
+    pub(crate) fn has_ended(&self) -> bool
+        requires storing { IsStoring self.now }
+        ensures ended { result ≡ true → HasKeptCause self.now ⊎ HasMetTotal self.now }
+        ensures runs { result ≡ false → IsRunning self.now × (¬ HasMetTotal self.now) }
+    {
+        match self {
+            Stage::Storing(transfer) => transfer.cause.is_some() || transfer.count.is_met(),
+            Stage::Rest | Stage::Reading(_) => unreachable!(),
+        }
+    }
+
     /// A block of so many bytes was stored.
     pub(crate) fn book(&mut self, pass: &mut Pass, count: u64)
         requires pass { IsPass self.old pass.old }
@@ -74,6 +87,17 @@ impl Stage {
     {
         match self {
             Stage::Storing(transfer) => transfer.stop(pass),
+            Stage::Rest | Stage::Reading(_) => unreachable!(),
+        }
+    }
+
+    /// The pass notes that the transfer takes nothing more.
+    pub(crate) fn note(&mut self, pass: &mut Pass)
+        requires pass { IsPass self.old pass.old }
+        ensures { Moving (NotesEnd pass.old pass.new) self.old self.new }
+    {
+        match self {
+            Stage::Storing(transfer) => transfer.note(pass),
             Stage::Rest | Stage::Reading(_) => unreachable!(),
         }
     }
@@ -137,6 +161,13 @@ impl Transfer {
         requires table { pass.old.table ≡ self.old.roster.table }
         requires failed { IsSome self.old.cause }
         ensures { FindsFailed pass.old pass.new self.old self.new }
+    {
+        self.note(pass);
+    }
+
+    fn note(&mut self, pass: &mut Pass)
+        requires table { pass.old.table ≡ self.old.roster.table }
+        ensures { NotesEnd pass.old pass.new self.old self.new }
     {
         let after = Numbers {
             stopped: true,

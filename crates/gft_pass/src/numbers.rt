@@ -14,7 +14,7 @@ pub struct Numbers {
     pub total: Option<u64>,
     /// The transfer's cause, if it was kept in a call with this pass.
     pub cause: Option<Cause>,
-    /// Whether a call with this pass found the transfer failed.
+    /// Whether a call with this pass found the transfer failed, or all its EODs taken.
     pub stopped: bool,
 }
 

@@ -1,0 +1,7 @@
+use Rattle.std.proofs.Common.{refl}
+use Rattle.gft_book.specs.Book.{book_of}
+use Rattle.gft_book.proofs.LiveLemmas.{IsLive-carries_on, noted_count, noted_pass}
+use Rattle.gft_book.proofs.live.Live.awaits_more.Goals as goal
+
+pub invariant_of-self : goal.invariant_of-self
+invariant_of-self g c = IsLive-carries_on g.N.Run.start _ _ c.facts.ensures.keep c.self.invariant c.awaits_more.ensures.carries_on
