@@ -127,6 +127,19 @@ honest_end sent old new t len b was whole end finished stands = by_source (sent 
     by_source None is = tt
     by_source (Some s) is = reads s is
 
+-- a STOR of honest senders whose EODs are met has no gap, since it keeps the source and nothing behind it
+pub HasNoGap-met : (sent : List ℕ → Option Sent) (book : BookState) (t : Transfer) (s : Sent) → IsBook sent book → book.stage ≡ Storing t → sent book.keep.drive.label ≡ Some s → IsStor t → IsSome book.keep.drive.contents → book.keep.standing ≡ Whole → IsMet t.count → HasNoGap book.keep.ranges
+HasNoGap-met sent book t s b was is stor told stands met x y lt kept =
+    let rest = is_there (left_out t.how) stor in
+    let facts = transfer_is sent book t was b in
+    let follows = (if_some (left_out t.how) _ rest.0 rest.1 (if_some (sent book.keep.drive.label) _ s is facts.origin)).0 in
+    let read = is_there book.keep.drive.contents told in
+    let now = b.keep.lawful.read read.0 read.1 in
+    let from = if_some (sent book.keep.drive.label) _ s is b.origin told read.0 now in
+    let h = (whole_read book.keep stands b.keep told read.0 now).held y kept in
+    let below = slice_get_within s.source y h.0 (from.named y h.0 h.1) in
+    all_kept s.source rest.0 (s.orders rest.0) (s.is rest.0) book.keep t follows facts.numbers.eods met x (omega (arith, lt, below))
+
 -- ---- the events
 
 pub misses_none : (seen ranges : List Range) (t : Transfer) → seen ≡ ranges → MissesNothing seen t → MissesNothing ranges t

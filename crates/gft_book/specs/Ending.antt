@@ -70,9 +70,11 @@ SettlesBadly keep now cause t =
     ⊎ ((t.cause ≡ None) × MissesNothing keep.ranges t × (cause ≡ DriveFailed)
     × Rose keep.drive.faults now.drive.faults)
 
--- the file is at rest; the numbers of the passes are the listed ones, and the kept cause is theirs
+-- the file is at rest with the ranges of before; the numbers of the passes are the listed ones, and the kept
+-- cause is theirs
 pub record ComesToRest (old new : BookState) (passes : List Lane) : Type 0 where
   pub rest : new.stage ≡ Rest
+  pub ranges : new.keep.ranges ≡ old.keep.ranges
   pub marks : new.marks ≡ old.marks
   pub turns : new.turns ≡ old.turns
   pub last : InTransfer (λ t. new.last ≡ Some t.roster.table) old.stage
