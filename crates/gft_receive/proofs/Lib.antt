@@ -1,0 +1,13 @@
+mod BookingLemmas
+mod HonestLemmas
+mod CauseLemmas
+mod TableLemmas
+mod TurnLemmas
+mod FeedLemmas
+mod PieceLemmas
+mod MoverLemmas
+mod ListLemmas
+mod RunLemmas
+mod TallyLemmas
+mod WholeLemmas
+mod CompleteLemmas
