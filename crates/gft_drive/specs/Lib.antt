@@ -8,5 +8,6 @@ pub mod Replay
 pub mod Replaying
 pub mod Sink
 pub mod Streams
+pub mod Twin
 pub mod Words
 pub mod Write

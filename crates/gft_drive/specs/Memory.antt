@@ -24,6 +24,18 @@ pub record Memory : Type 0 where
 abbrev pub image_of : Memory → Image
 image_of drive = image_after drive.disk.first drive.disk.steps
 
+-- the same drive with nothing unsynced: it has had the same calls, the same are to fail, and none has yet
+abbrev pub twin_of : Memory → Memory
+twin_of drive = record {
+  label = drive.label;
+  disk = record { first = image_of drive; steps = [] };
+  calls = drive.calls;
+  faults = 0;
+  capacity = drive.capacity;
+  calls_left = drive.calls_left;
+  failing = drive.failing;
+}
+
 -- no bytes are written, the other part is this many zeros, and nothing was done
 pub record IsNew (ranges_len : ℕ) (disk : Recorded) : Type 0 where
   pub empty : disk.first.bytes ≡ []

@@ -2,6 +2,8 @@
 pub use Rattle.gft_drive.specs.Drive.{DriveState, Image, IsLawful, MayLeave, Goes, Elapses, Unchanged}
 pub use Rattle.gft_drive.specs.Drive.{OnPart, Reads, ReadsBy, Leaves, LeavesBy, ChangesOnly, IsSynced}
 pub use Rattle.gft_drive.specs.Drive.{HasLength, HasRead, part_of}
+pub use Rattle.gft_drive.specs.Sink.{AppendsPart, IsPartOf}
+pub use Rattle.gft_drive.specs.Twin.{HasTwinCause, IsTwin}
 pub use Rattle.gft_drive.specs.Write.{Anything, CutTo, DiffersIn, Same, Torn, TornCut, Written}
 pub use Rattle.gft_drive.specs.Layout.{IsPad, IsPadded, Layout, Slot, bank_at, bank_size, first_layout}
 pub use Rattle.gft_drive.specs.Layout.{layout_of, slot_at, slot_of}

@@ -145,6 +145,24 @@ impl Disk {
     {
         let bytes = crashed(alloc, &self.first.bytes, &self.log, Part::Bytes, choice)?;
         let ranges = crashed(alloc, &self.first.ranges, &self.log, Part::Ranges, choice)?;
+        Ok(Disk::with(alloc, bytes, ranges)?)
+    }
+
+    /// What a read of this one gives, with nothing done to it.
+    pub fn twin(&self, alloc: Global) -> Result<Disk, AllocError>
+        ensures { IfOk result (λ twin. twin
+            ≡ record { first = image_after self.now.first self.now.steps; steps = [] }) }
+    {
+        let bytes = self.current.bytes.clone()?;
+        let ranges = self.current.ranges.clone()?;
+        Disk::with(alloc, bytes, ranges)
+    }
+
+    // These contents, with nothing done to them.
+    fn with(alloc: Global, bytes: Vec<u8>, ranges: Vec<u8>) -> Result<Disk, AllocError>
+        ensures { IfOk result (λ disk. disk
+            ≡ record { first = record { bytes = bytes.items; ranges = ranges.items }; steps = [] }) }
+    {
         let current = Contents {
             bytes: bytes.clone()?,
             ranges: ranges.clone()?,

@@ -2,9 +2,12 @@ ghost use Rattle.std.specs.Prelude.{◌≡◌, ◌<◌, ◌≤◌, ℕ, length, 
 ghost use Rattle.gft_base.specs.Words.{HasCause};
 ghost use Rattle.gft_drive.specs.Drive.{DriveState, IsLawful, Unchanged, ChangesOnly, Reads, Leaves};
 ghost use Rattle.gft_drive.specs.Drive.{IsSynced, HasLength, HasRead};
+ghost use Rattle.gft_drive.specs.Twin.{IsTwin, HasTwinCause};
 ghost use Rattle.gft_drive.specs.Write.{Written, Torn, CutTo, TornCut, Same};
 
+use crate::error::TwinError;
 use gft_base::Failed;
+use std::alloc::Global;
 
 /// One of the two byte lists of a drive: a file's data, and what is kept beside it of its ranges.
 #[derive(Clone, Copy, Debug, PartialEq, Eq)]
@@ -57,6 +60,13 @@ pub trait Drive: Sized + Send {
         ensures read { OnOk result ((state self.new).contents ≡ (state self.old).contents) }
         ensures crash { Leaves part Same (state self.old) (state self.new) }
         ensures only { ChangesOnly part (state self.old) (state self.new) result };
+
+    /// Another drive under the same label, which reads what this one reads now. A crash leaves that of
+    /// it, and no call of it has failed. This drive stays as it is.
+    fn twin(&mut self, alloc: Global) -> Result<Self, TwinError>
+        ensures twin { IfOk result (λ twin. IsTwin (state self.old) (state twin)) }
+        ensures unchanged { Unchanged (state self.old) (state self.new) }
+        ensures cause { HasTwinCause (state self.old).faults (state self.new).faults result };
 
     /// Every drive's state is lawful.
     ghost lawful: { (drive : Self) → IsLawful (state drive) };

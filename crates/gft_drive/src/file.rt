@@ -3,6 +3,7 @@ ghost use Rattle.gft_base.specs.Words.{HasCause};
 
 use crate::RANGES_LEN;
 use crate::drive::{Drive, Part};
+use crate::error::TwinError;
 use gft_base::{Failed, Faults, OutOfMemory};
 use std::alloc::{AllocError, Global};
 use std::fs::{File, Files};
@@ -131,6 +132,13 @@ impl<R: Files<File = File> + Alloc<A = Global> + Clone + Drop + Send> Drive for 
     fn sync(&mut self, part: Part) -> Result<(), Failed> {
         let done = self.open(part).and_then(|file| file.sync_data());
         self.told(done)
+    }
+
+    /// A drive over the same files, which nobody may write meanwhile. It touches none.
+    fn twin(&mut self, _alloc: Global) -> Result<FileDrive<R>, TwinError> {
+        let rt = self.rt.clone()?;
+        let path = self.path.clone()?;
+        Ok(FileDrive::at(rt, path)?)
     }
 }
 

@@ -6,6 +6,7 @@
 mod crash;
 mod disk;
 mod drive;
+mod error;
 mod failures;
 mod file;
 mod memory;
@@ -20,6 +21,7 @@ mod tests;
 
 pub use crash::CrashChoice;
 pub use drive::{Drive, Part};
+pub use error::TwinError;
 pub use failures::{CallKind, DriveCall, FailAt};
 pub use file::FileDrive;
 pub use memory::MemoryDrive;

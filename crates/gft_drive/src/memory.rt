@@ -1,15 +1,16 @@
 ghost use Rattle.std.specs.Prelude.{◌≡◌, ◌+◌, ◌-◌, ◌<◌, ◌≤◌, ◌^◌, ◌↔◌, ℕ, min, max};
 ghost use Rattle.std.specs.Prelude.{[], ◌∷◌, ◌++◌, length, take, drop, slice_get, slice_index, vec_capacity};
-ghost use Rattle.std.specs.Prelude.{IfOk, OnOk, OnErr, IsOk};
+ghost use Rattle.std.specs.Prelude.{IfOk, IfErr, OnOk, OnErr, IsOk};
 ghost use Rattle.gft_base.specs.Words.{HasCause};
 ghost use Rattle.gft_drive.specs.Drive.{Image};
-ghost use Rattle.gft_drive.specs.Memory.{IsNew, image_of};
+ghost use Rattle.gft_drive.specs.Memory.{IsNew, image_of, twin_of};
 ghost use Rattle.gft_drive.specs.Replay.{ImagesAfter};
 
 use crate::RANGES_LEN;
 use crate::crash::CrashChoice;
 use crate::disk::{Disk, NoRoom};
 use crate::drive::{Drive, Part};
+use crate::error::TwinError;
 use crate::failures::{CallKind, DriveCall, FailAt};
 use gft_base::{Failed, Faults, OutOfMemory};
 use std::alloc::Global;
@@ -229,6 +230,25 @@ impl Drive for MemoryDrive {
         self.begin(CallKind::Sync, part, 0, 0)?;
         let done = self.disk.sync(part);
         self.told(done)
+    }
+
+    /// A copy with nothing unsynced: it counts the calls that this one had, and the same are to fail.
+    /// It is no call that this drive counts, and never `Failed`.
+    fn twin(&mut self, alloc: Global) -> Result<MemoryDrive, TwinError>
+        ensures copy { IfOk result (λ twin. twin ≡ twin_of self.old) }
+        ensures same { self.new ≡ self.old }
+        ensures refused { IfErr result (λ error. error ≡ TwinError.OutOfMemory) }
+    {
+        Ok(MemoryDrive {
+            alloc,
+            label: Vec::from_slice(alloc, &self.label)?,
+            disk: self.disk.twin(alloc)?,
+            capacity: self.capacity,
+            calls_left: self.calls_left,
+            failing: Vec::from_slice(alloc, &self.failing)?,
+            calls: Vec::from_slice(alloc, &self.calls)?,
+            faults: Faults::new(),
+        })
     }
 }
 

@@ -98,6 +98,28 @@ fn a_crash_leaves_what_it_may(rt: HostRuntime) -> Result<(), Fail> {
     Ok(())
 }
 
+#[test]
+fn a_twin_reads_what_the_drive_read(rt: HostRuntime) -> Result<(), Fail> {
+    let third_write = FailAt {
+        call: CallKind::Write,
+        part: Part::Bytes,
+        number: 3,
+    };
+    let mut drive = made(rt.alloc(), 8, 9, &[third_write])?;
+    assert!(rt; drive.write_at(Part::Bytes, 0, b"hello").is_ok());
+    let mut twin = drive.twin(rt.alloc())?;
+    assert!(rt; drive.write_at(Part::Bytes, 0, b"J").is_ok());
+    assert_eq!(rt; drive.bytes(), b"Jello".as_slice());
+    let mut buf = [9u8; 6];
+    assert_eq!(rt; twin.read(Part::Bytes, 0, &mut buf), Ok(5));
+    assert_eq!(rt; buf, *b"hello\x09");
+    assert_eq!(rt; (drive.count(), twin.count()), (2, 2));
+    assert!(rt; twin.write_at(Part::Bytes, 0, b"B").is_ok());
+    assert!(rt; twin.write_at(Part::Bytes, 0, b"C").is_err());
+    assert_eq!(rt; twin.crash(CrashChoice::Old).bytes(), b"hello".as_slice());
+    Ok(())
+}
+
 // A drive may be handed to a thread.
 #[test]
 fn two_threads_write_their_drives(rt: HostRuntime) -> Result<(), Fail> {
@@ -224,6 +246,8 @@ fn a_file_is_a_drive(rt: HostRuntime) -> Result<(), Fail> {
     let mut buf = [9u8; 8];
     assert_eq!(rt; drive.read(Part::Bytes, 2, &mut buf), Ok(4));
     assert_eq!(rt; buf, *b"\0xyz\x09\x09\x09\x09");
+    let mut twin = drive.twin(rt.alloc())?;
+    assert_eq!(rt; twin.len(Part::Bytes), Ok(6));
     assert!(rt; drive.cut(Part::Bytes, 9).is_ok());
     assert_eq!(rt; drive.len(Part::Bytes), Ok(6));
     assert!(rt; drive.cut(Part::Bytes, 4).is_ok());

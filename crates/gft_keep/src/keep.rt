@@ -1,6 +1,6 @@
 ghost use Rattle.std.specs.Prelude.{◌≡◌, ◌≢◌, ◌↔◌, ◌≤◌, length, IsTrue, IfOk, IfErr, OnOk};
 ghost use Rattle.gft_base.specs.Words.{HasCause};
-ghost use Rattle.gft_drive.specs.Words.{HasLength, HasRead};
+ghost use Rattle.gft_drive.specs.Words.{HasLength, HasRead, HasTwinCause, IsTwin};
 ghost use Rattle.gft_drive.specs.declared.Part.TheVariants.{Bytes};
 ghost use Rattle.gft_journal.specs.Words.{HasAttachCause};
 ghost use Rattle.gft_keep.specs.declared.standing.Standing.TheVariants.{Whole};
@@ -12,7 +12,7 @@ ghost use Rattle.gft_keep.specs.State.{IsWhole};
 use crate::opening::open;
 use crate::standing::Standing;
 use gft_base::Failed;
-use gft_drive::{Drive, Part};
+use gft_drive::{Drive, Part, TwinError};
 use gft_journal::{AttachError, Found, Journal};
 use gft_range::RangeSet;
 use std::alloc::Global;
@@ -20,7 +20,7 @@ use std::alloc::Global;
 /// A file on a drive beside its journal. Contracts see `keep_of D.state keep`: the drive's state, what
 /// is kept, and how the keep stands.
 ///
-/// Looks: `ranges`, `born`, `completed`, `broken`, `read`, `size`. Changes: `fresh` or `resume`, then
+/// Looks: `ranges`, `born`, `completed`, `broken`, `read`, `size`, `twin`. Changes: `fresh` or `resume`, then
 /// `store` for each block, then `finish`. A change that fails leaves it broken: then only the looks in
 /// memory, which show what was kept before, `into_drive` and `reattach` may be called, and only a
 /// `reattach` that is `Ok` repairs it.
@@ -158,5 +158,17 @@ impl<D: Drive + Drop> Keep<D> {
             (keep_of D.state self.new).drive.faults result }
     {
         self.drive.len(Part::Bytes)
+    }
+
+    /// Another drive under the same label, which reads what the keep's drive reads now. A crash leaves
+    /// that of it, and no call of it has failed.
+    pub fn twin(&mut self) -> Result<D, TwinError>
+        requires whole { IsWhole (keep_of D.state self.old) }
+        ensures twin { IfOk result (λ twin. IsTwin (keep_of D.state self.old).drive (D.state twin)) }
+        ensures looks { OnlyLooks (keep_of D.state self.old) (keep_of D.state self.new) }
+        ensures cause { HasTwinCause (keep_of D.state self.old).drive.faults
+            (keep_of D.state self.new).drive.faults result }
+    {
+        self.drive.twin(self.alloc)
     }
 }

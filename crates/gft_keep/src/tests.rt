@@ -339,6 +339,21 @@ fn older_longer_data_is_gone(rt: HostRuntime) -> Result<(), Fail> {
     Ok(())
 }
 
+#[test]
+fn a_twin_is_attached_beside_the_keep(rt: HostRuntime) -> Result<(), Fail> {
+    let Ok(mut keep) = begun(rt.alloc(), made(rt.alloc(), u32::MAX, &[])?) else {
+        panic!(rt; "nothing fails");
+    };
+    let _new = put(&mut keep, 0, b"hello")?;
+    let twin = keep.twin()?;
+    has(&rt, &mut keep, &[range(0, 5)], b"hello")?;
+    let Ok(mut second) = opened(rt.alloc(), twin) else {
+        panic!(rt; "nothing fails");
+    };
+    has(&rt, &mut second, &[range(0, 5)], b"hello")?;
+    Ok(())
+}
+
 /// What a drive is attached to, with its bytes.
 type Answer = (Option<AttachError>, usize);
 
