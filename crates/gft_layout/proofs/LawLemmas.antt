@@ -1,5 +1,5 @@
 -- The laws of plans.
-use Rattle.std.proofs.Common.{◌≡◌, ℕ, ◌+◌, ◌-◌, ◌*◌, ◌/◌, ◌%◌, ◌<◌, ◌≤◌, ◌↔◌, ◌⊎◌, Bool, true, false, min, List, [], ◌∷◌, inl, inr, arith, refl, sym, subst, ap, ◌∙◌}
+use Rattle.std.proofs.Common.{◌≡◌, ℕ, ◌+◌, ◌-◌, ◌*◌, ◌%◌, ◌<◌, ◌≤◌, Bool, true, List, [], ◌∷◌, inl, inr, arith, refl, sym, subst, ap, ◌∙◌}
 use Rattle.std.specs.List.{AllByRecursion}
 use Rattle.std.specs.Int.{div_ceil}
 use Rattle.std.proofs.lemmas.Bool.{cases_lt, cases_eq, both_ways}
@@ -11,9 +11,9 @@ use Rattle.gft_layout.specs.declared.Layout.{Layout}
 use Rattle.gft_layout.specs.declared.Layout.TheVariants.{Partitioned, Blocked}
 use Rattle.gft_layout.specs.declared.Shape.{Shape}
 use Rattle.gft_layout.specs.Owner.{block_at, IsOwner, IsShape, LayoutBlock, Owner, owner_of}
-use Rattle.gft_layout.specs.Plan.{is_sent, longest_runs, plan_of}
-use Rattle.gft_layout.specs.Runs.{BeginsFrom, IsAscending, IsLeft, IsLongestRun, NamesItsOffsets}
-use Rattle.gft_layout.proofs.RunLemmas.{AreRuns, AreRuns-longest, IsFirstRun}
+use Rattle.gft_layout.specs.Plan.{is_sent, plan_of}
+use Rattle.gft_layout.specs.Runs.{BeginsFrom, IsAscending, IsLongestRun, NamesItsOffsets}
+use Rattle.gft_layout.proofs.RunLemmas.{AreRuns, AreRuns-longest}
 use Rattle.gft_layout.proofs.LeftLemmas.{owner_sent, sent_owner}
 
 -- ---- runs ascend, and have the places that are sent

@@ -1,12 +1,11 @@
 -- What is left of a range, and which offsets a channel sends.
-use Rattle.std.proofs.Common.{◌≡◌, ℕ, ◌+◌, ◌-◌, ◌<◌, ◌≤◌, ◌↔◌, ◌⊎◌, Bool, true, false, not, ◌&&◌, ◌||◌, eqb, leb, ltb, List, [], ◌∷◌, ◌++◌, inl, inr, arith, refl, sym, subst, ap, ◌∙◌}
-use Rattle.std.specs.List.{list_any}
-use Rattle.std.proofs.lemmas.Bool.{cases_Bool, cases_lt, and_parts, and_from, and_left, or_cases, or_left, or_right, leb-true, ltb-true, le-leb, lt-ltb, eqb-true, eq-eqb, both_ways, not-true, not_from_false, false_from_ne_true}
+use Rattle.std.proofs.Common.{◌≡◌, ℕ, ◌-◌, ◌<◌, ◌≤◌, true, false, not, ◌&&◌, eqb, leb, ltb, List, [], ◌∷◌, inl, inr, arith, refl, sym, ap, ◌∙◌}
+use Rattle.std.proofs.lemmas.Bool.{cases_Bool, cases_lt, and_parts, and_from, or_cases, or_left, or_right, leb-true, ltb-true, le-leb, lt-ltb, eqb-true, eq-eqb, both_ways, not-true, not_from_false, false_from_ne_true}
 use Rattle.gft_range.specs.declared.range.Range.{Range}
-use Rattle.gft_range.specs.Words.{HasOffset, InRange, IsMissing, IsNormal}
+use Rattle.gft_range.specs.Words.{HasOffset, IsMissing, IsNormal}
 use Rattle.gft_layout.specs.declared.Layout.{Layout}
 use Rattle.gft_layout.specs.declared.Shape.{Shape}
-use Rattle.gft_layout.specs.Owner.{block_at, Owner, owner_of}
+use Rattle.gft_layout.specs.Owner.{Owner, owner_of}
 use Rattle.gft_layout.specs.Plan.{is_in, is_sent, longest_runs}
 use Rattle.gft_layout.specs.Blocks.{left_in}
 use Rattle.gft_layout.proofs.RunLemmas.{AreRuns, AreRuns-longest, AreRuns-normal, AreRuns-one}

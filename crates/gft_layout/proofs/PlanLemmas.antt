@@ -1,8 +1,8 @@
 -- A plan is what is left of the layout blocks of its channel.
-use Rattle.std.proofs.Common.{◌≡◌, ℕ, ◌+◌, ◌-◌, ◌*◌, ◌/◌, ◌%◌, ◌<◌, ◌≤◌, min, true, false, List, [], ◌∷◌, inl, inr, arith, refl, sym, subst, ap, ◌∙◌, lit<}
+use Rattle.std.proofs.Common.{◌≡◌, ℕ, ◌+◌, ◌-◌, ◌*◌, ◌/◌, ◌%◌, ◌<◌, ◌≤◌, min, List, [], inl, inr, arith, refl, sym, subst, ap, ◌∙◌, lit<}
 use Rattle.std.specs.Int.{div_ceil}
 use Rattle.std.specs.List.{flat_map}
-use Rattle.std.proofs.lemmas.Bool.{cases_lt, cases_eq, false_from_ne_true}
+use Rattle.std.proofs.lemmas.Bool.{cases_lt, cases_eq}
 use Rattle.std.proofs.lemmas.Grind.{div_ceil_times}
 use Rattle.std.proofs.lemmas.Nat.{div-mul-add, mod-mul-add}
 use Rattle.std.proofs.Math.Arith.{mod-mul}
@@ -12,7 +12,7 @@ use Rattle.gft_layout.specs.declared.Layout.{Layout}
 use Rattle.gft_layout.specs.declared.Layout.TheVariants.{Partitioned, Blocked}
 use Rattle.gft_layout.specs.declared.Shape.{Shape}
 use Rattle.gft_layout.specs.declared.TheConstants.{PARTITION_BLOCK}
-use Rattle.gft_layout.specs.Owner.{block_at, HasBlock, IsOwner, IsShape, Owner, owner_of}
+use Rattle.gft_layout.specs.Owner.{block_at, HasBlock, IsOwner, Owner}
 use Rattle.gft_layout.specs.Plan.{is_sent, plan_of}
 use Rattle.gft_layout.specs.Blocks.{channel_blocks, left_in, ranges_every}
 use Rattle.gft_layout.proofs.RunLemmas.{AreRuns, AreRuns-back, AreRuns-front, AreRuns-longest, AreRuns-one}

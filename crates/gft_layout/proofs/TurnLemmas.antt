@@ -1,14 +1,13 @@
 -- Blocks that a channel takes in turn: what is left of them is what it sends.
-use Rattle.std.proofs.Common.{◌≡◌, ℕ, zero, suc, ◌+◌, ◌-◌, ◌*◌, ◌/◌, ◌%◌, ◌<◌, ◌≤◌, min, Bool, true, false, not, List, [], ◌∷◌, ◌++◌, inl, inr, arith, refl, sym, subst, ap, ◌∙◌}
+use Rattle.std.proofs.Common.{◌≡◌, ℕ, zero, suc, ◌+◌, ◌-◌, ◌*◌, ◌/◌, ◌%◌, ◌<◌, ◌≤◌, min, Bool, true, false, not, List, inl, inr, arith, refl, sym, subst, ap, ◌∙◌}
 use Rattle.std.specs.List.{flat_map}
-use Rattle.std.proofs.lemmas.Bool.{cases_Bool, cases_lt, cases_eq, both_ways, lt-ltb, le-ltb}
+use Rattle.std.proofs.lemmas.Bool.{cases_lt, cases_eq, both_ways, lt-ltb, le-ltb}
 use Rattle.std.proofs.Math.Nat.{div-add-mod, div-eq_of_lt-le, mod-eq_of_lt, add-mod_right, mul-le-mul_left, mul-le-mul_right}
 use Rattle.gft_range.specs.declared.range.Range.{Range}
 use Rattle.gft_layout.specs.Plan.{is_in}
 use Rattle.gft_layout.specs.Blocks.{left_in, ranges_every, some_ranges}
 use Rattle.gft_layout.proofs.RunLemmas.{AreRuns, AreRuns-append, AreRuns-at, AreRuns-front}
 use Rattle.gft_layout.proofs.LeftLemmas.{AreRuns-left_in}
-use Rattle.gft_layout.proofs.BlockLemmas.{ranges-none}
 
 -- ---- division
 

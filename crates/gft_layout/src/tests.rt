@@ -83,3 +83,95 @@ fn blocks_without_what_is_done_go_to_stripes_and_channels_in_turn(
     );
     Ok(())
 }
+
+/// What a case cuts, and the one block that it gives, if any.
+type Row = (Range, Layout, Shape, u16, Option<Range>);
+
+#[test]
+fn a_stripe_gets_its_part_up_to_the_end_of_the_region(rt: HostRuntime) -> Result<(), Fail> {
+    let none_done = set_of(&rt, rt.alloc(), &[])?;
+    let three = Shape {
+        stripes: 3,
+        parallel: 1,
+    };
+    let sixteen = Shape {
+        stripes: 16,
+        parallel: 1,
+    };
+    let partitioned = Layout::Partitioned;
+    let fours = Layout::Blocked { block: 4 };
+    let half = Layout::Blocked { block: 1 << 63 };
+    let top = u64::MAX;
+    let rows: [Row; 14] = [
+        (range(0, 10), partitioned, three, 0, Some(range(0, 4))),
+        (range(0, 10), partitioned, three, 1, Some(range(4, 8))),
+        (range(0, 10), partitioned, three, 2, Some(range(8, 10))),
+        (range(0, 10), fours, three, 0, Some(range(0, 4))),
+        (range(0, 10), fours, three, 1, Some(range(4, 8))),
+        (range(0, 10), fours, three, 2, Some(range(8, 10))),
+        (range(5, 5), partitioned, three, 0, None),
+        (range(7, 3), fours, three, 1, None),
+        (
+            range(top - 5, top),
+            partitioned,
+            sixteen,
+            4,
+            Some(range(top - 1, top)),
+        ),
+        (range(top - 5, top), partitioned, sixteen, 5, None),
+        (range(top - 5, top), partitioned, sixteen, 15, None),
+        (
+            range(5, top),
+            half,
+            three,
+            0,
+            Some(range(5, 9_223_372_036_854_775_813)),
+        ),
+        (
+            range(5, top),
+            half,
+            three,
+            1,
+            Some(range(9_223_372_036_854_775_813, top)),
+        ),
+        (range(5, top), half, three, 2, None),
+    ];
+    for (region, layout, shape, stripe, block) in rows {
+        let case = Case {
+            region,
+            layout,
+            shape,
+            stripe,
+            channel: 0,
+        };
+        match block {
+            Some(block) => has_blocks(&rt, &none_done, case, &[block]),
+            None => has_blocks(&rt, &none_done, case, &[]),
+        }
+    }
+    Ok(())
+}
+
+#[test]
+fn channels_take_blocks_of_a_partition_in_turn(rt: HostRuntime) -> Result<(), Fail> {
+    let none_done = set_of(&rt, rt.alloc(), &[])?;
+    let case = Case {
+        region: range(100, 2_500_100),
+        layout: Layout::Partitioned,
+        shape: Shape {
+            stripes: 1,
+            parallel: 2,
+        },
+        stripe: 0,
+        channel: 0,
+    };
+    let first = [range(100, 1_048_676), range(2_097_252, 2_500_100)];
+    has_blocks(&rt, &none_done, case, &first);
+    has_blocks(
+        &rt,
+        &none_done,
+        Case { channel: 1, ..case },
+        &[range(1_048_676, 2_097_252)],
+    );
+    Ok(())
+}

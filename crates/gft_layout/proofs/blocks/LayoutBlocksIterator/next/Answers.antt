@@ -1,4 +1,4 @@
-use Rattle.std.proofs.Common.{◌≡◌, rules, ℕ, ◌+◌, ◌-◌, ◌^◌, ◌<◌, ◌≤◌, ◌∷◌, List, length, min, arith, sym, ap, ◌∙◌}
+use Rattle.std.proofs.Common.{◌≡◌, rules, ℕ, ◌+◌, ◌-◌, ◌^◌, ◌≤◌, ◌∷◌, List, min, arith, sym, ap, ◌∙◌}
 use Rattle.gft_range.specs.declared.range.Range.{Range}
 use Rattle.gft_layout.specs.Blocks.{ranges_every}
 use Rattle.gft_layout.proofs.BlockLemmas.{ranges-next}
