@@ -12,7 +12,7 @@ use Rattle.gft_layout.specs.declared.Layout.{Layout}
 use Rattle.gft_layout.specs.declared.Layout.TheVariants.{Partitioned, Blocked}
 use Rattle.gft_layout.specs.declared.Shape.{Shape}
 use Rattle.gft_layout.specs.declared.TheConstants.{PARTITION_BLOCK}
-use Rattle.gft_layout.specs.Owner.{block_at, HasBlock, IsOwner, Owner}
+use Rattle.gft_layout.specs.Owner.{block_at, IsLayout, IsOwner, Owner}
 use Rattle.gft_layout.specs.Plan.{is_sent, plan_of}
 use Rattle.gft_layout.specs.Blocks.{channel_blocks, left_in, ranges_every}
 use Rattle.gft_layout.proofs.RunLemmas.{AreRuns, AreRuns-back, AreRuns-front, AreRuns-longest, AreRuns-one}
@@ -156,13 +156,13 @@ no_blocks region (Blocked block) shape stripe channel le =
     let at = region.start + (channel * shape.stripes + stripe) * block in
     ranges-none at block (shape.stripes * shape.parallel * block) region.end (region.end - at) (omega arith)
 
-runs_of_blocks : (region : Range) (done : List Range) (layout : Layout) (shape : Shape) (stripe channel : ℕ) → HasBlock layout → IsOwner shape (record { stripe = stripe; channel = channel }) → region.start < region.end → AreRuns (is_sent region done layout shape stripe channel) (λ x. (block_at region layout shape x).number) region.start region.end (flat_map (left_in done) (channel_blocks region layout shape stripe channel))
+runs_of_blocks : (region : Range) (done : List Range) (layout : Layout) (shape : Shape) (stripe channel : ℕ) → IsLayout layout → IsOwner shape (record { stripe = stripe; channel = channel }) → region.start < region.end → AreRuns (is_sent region done layout shape stripe channel) (λ x. (block_at region layout shape x).number) region.start region.end (flat_map (left_in done) (channel_blocks region layout shape stripe channel))
 runs_of_blocks region done Partitioned shape stripe channel some owner lt =
     partitioned_runs region done shape stripe channel (div_ceil (region.end - region.start) shape.stripes) refl lt owner.stripe owner.channel
 runs_of_blocks region done (Blocked block) shape stripe channel some owner lt =
     blocked_runs region done block shape stripe channel (omega arith) owner.stripe owner.channel
 
-pub plan-blocks : (region : Range) (done : List Range) (layout : Layout) (shape : Shape) (stripe channel : ℕ) → HasBlock layout → IsOwner shape (record { stripe = stripe; channel = channel }) → flat_map (left_in done) (channel_blocks region layout shape stripe channel) ≡ plan_of region done layout shape stripe channel
+pub plan-blocks : (region : Range) (done : List Range) (layout : Layout) (shape : Shape) (stripe channel : ℕ) → IsLayout layout → IsOwner shape (record { stripe = stripe; channel = channel }) → flat_map (left_in done) (channel_blocks region layout shape stripe channel) ≡ plan_of region done layout shape stripe channel
 unfolding plan_of
 plan-blocks region done layout shape stripe channel some owner =
     let sent = is_sent region done layout shape stripe channel in

@@ -13,14 +13,16 @@ pub record LayoutBlock : Type 0 where
   pub number : ℕ
 
 -- the layout block of the place i of a region of len places, counted from its start
-abbrev pub block_of : Layout → ℕ → ℕ → ℕ → LayoutBlock
-block_of Partitioned stripes len i =
-    let width = div_ceil len stripes in record { stripe = i / width; number = (i % width) / PARTITION_BLOCK }
-block_of (Blocked block) stripes len i = record { stripe = (i / block) % stripes; number = (i / block) / stripes }
+abbrev pub layout_block : Layout → ℕ → ℕ → ℕ → LayoutBlock
+layout_block Partitioned stripes len i =
+    let width = div_ceil len stripes in
+    record { stripe = i / width; number = (i % width) / PARTITION_BLOCK }
+layout_block (Blocked block) stripes len i =
+    record { stripe = (i / block) % stripes; number = (i / block) / stripes }
 
 -- the layout block of an offset of the region
 abbrev pub block_at : Range → Layout → Shape → ℕ → LayoutBlock
-block_at region layout shape x = block_of layout shape.stripes (region.end - region.start) (x - region.start)
+block_at region layout shape x = layout_block layout shape.stripes (region.end - region.start) (x - region.start)
 
 -- a stripe, and a data connection of it
 pub record Owner : Type 0 where
@@ -30,7 +32,8 @@ pub record Owner : Type 0 where
 -- the data connections of a stripe take its layout blocks in turn
 abbrev pub owner_of : Range → Layout → Shape → ℕ → Owner
 owner_of region layout shape x =
-    let block = block_at region layout shape x in record { stripe = block.stripe; channel = block.number % shape.parallel }
+    let block = block_at region layout shape x in
+    record { stripe = block.stripe; channel = block.number % shape.parallel }
 
 -- ---- what a plan can be made of
 
@@ -47,6 +50,6 @@ pub record IsShape (shape : Shape) : Type 0 where
   pub parallel : shape.parallel ≤ 64
 
 -- a block has a place
-abbrev pub HasBlock : Layout → Type 0
-HasBlock Partitioned = Unit {0}
-HasBlock (Blocked block) = 1 ≤ block
+abbrev pub IsLayout : Layout → Type 0
+IsLayout Partitioned = Unit {0}
+IsLayout (Blocked block) = 1 ≤ block

@@ -1,5 +1,6 @@
 -- What one data connection sends of a region, block by block.
-use Rattle.std.specs.Prelude.{ℕ, zero, suc, ◌+◌, ◌-◌, Bool, not, ◌&&◌, nat_eq, nat_le, nat_lt, if◌then◌else◌, List, [], ◌∷◌}
+use Rattle.std.specs.Prelude.{ℕ, zero, suc, ◌+◌, ◌-◌, Bool, not, ◌&&◌, nat_eq, nat_le, nat_lt}
+use Rattle.std.specs.Prelude.{if◌then◌else◌, List, [], ◌∷◌}
 use Rattle.std.specs.List.{list_any}
 use Rattle.gft_range.specs.declared.range.Range.{Range}
 use Rattle.gft_layout.specs.declared.Layout.{Layout}
@@ -39,5 +40,5 @@ is_sent region done layout shape stripe channel x =
 -- the offsets that a channel sends, each longest run in one layout block as a block of its own
 unfoldable pub plan_of : Range → List Range → Layout → Shape → ℕ → ℕ → List Range
 plan_of region done layout shape stripe channel =
-    longest_runs (is_sent region done layout shape stripe channel) (λ x. (block_at region layout shape x).number)
-    region.start (region.end - region.start)
+    longest_runs (is_sent region done layout shape stripe channel)
+    (λ x. (block_at region layout shape x).number) region.start (region.end - region.start)

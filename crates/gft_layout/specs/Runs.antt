@@ -21,12 +21,14 @@ IsAscending [] = Unit {0}
 IsAscending (r ∷ rs) = (r.start < r.end) × BeginsFrom r.end rs × IsAscending rs
 
 -- the plan names, once each, the offsets that are left and are this owner's, and no others
-pub record NamesItsOffsets (region : Range) (done : List Range) (layout : Layout) (shape : Shape) (owner : Owner) (plan : List Range) : Type 0 where
+pub record NamesItsOffsets (region : Range) (done : List Range) (layout : Layout) (shape : Shape)
+    (owner : Owner) (plan : List Range) : Type 0 where
   pub ascending : IsAscending plan
   pub offsets : (x : ℕ) → HasOffset plan x ↔ (IsLeft region done x × (owner_of region layout shape x ≡ owner))
 
 -- a longest run of consecutive offsets that are left, inside one layout block
-pub record IsLongestRun (region : Range) (done : List Range) (layout : Layout) (shape : Shape) (r : Range) : Type 0 where
+pub record IsLongestRun (region : Range) (done : List Range) (layout : Layout) (shape : Shape)
+    (r : Range) : Type 0 where
   pub non_empty : r.start < r.end
   pub inside : (x : ℕ) → InRange r x →
       IsLeft region done x × (block_at region layout shape x ≡ block_at region layout shape r.start)

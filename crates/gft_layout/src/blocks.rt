@@ -1,5 +1,5 @@
 ghost use Rattle.std.specs.Prelude.{◌≡◌, ◌<◌};
-ghost use Rattle.gft_layout.specs.Owner.{HasBlock, IsShape};
+ghost use Rattle.gft_layout.specs.Owner.{IsLayout, IsShape};
 ghost use Rattle.gft_layout.specs.Blocks.{channel_blocks};
 
 use crate::{Layout, PARTITION_BLOCK, Shape};
@@ -40,7 +40,7 @@ impl LayoutBlocks {
         channel: u16,
     ) -> Self
         requires shape { IsShape shape }
-        requires block { HasBlock layout }
+        requires block { IsLayout layout }
         requires channel { channel < shape.parallel }
         ensures { result ≡ channel_blocks region layout shape stripe channel }
     {

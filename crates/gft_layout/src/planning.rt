@@ -1,5 +1,5 @@
 ghost use Rattle.std.specs.Prelude.{◌≡◌, ◌<◌};
-ghost use Rattle.gft_layout.specs.Owner.{HasBlock, IsOwner, IsShape};
+ghost use Rattle.gft_layout.specs.Owner.{IsLayout, IsOwner, IsShape};
 ghost use Rattle.gft_layout.specs.Plan.{plan_of};
 
 use crate::blocks::LayoutBlocks;
@@ -19,7 +19,7 @@ pub fn plan<'a>(
     channel: u16,
 ) -> Plan<'a>
     requires shape { IsShape shape }
-    requires block { HasBlock layout }
+    requires block { IsLayout layout }
     requires owner { IsOwner shape (record { stripe = stripe; channel = channel }) }
     ensures { result ≡ plan_of region done.now.ranges layout shape stripe channel }
 {
