@@ -1,0 +1,6 @@
+mod BlockLemmas
+mod LawLemmas
+mod LeftLemmas
+mod PlanLemmas
+mod RunLemmas
+mod TurnLemmas
