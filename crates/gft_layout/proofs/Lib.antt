@@ -4,3 +4,5 @@ mod LeftLemmas
 mod PlanLemmas
 mod RunLemmas
 mod TurnLemmas
+-- what the proofs of other crates may cite
+pub mod Lemmas

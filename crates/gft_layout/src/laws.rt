@@ -1,6 +1,6 @@
 //! Laws of plans, for proofs. The functions do nothing.
 
-ghost use Rattle.std.specs.Prelude.{ℕ, ◌<◌, List};
+ghost use Rattle.std.specs.Prelude.{ℕ, List};
 ghost use Rattle.std.specs.List.{AllByRecursion};
 ghost use Rattle.gft_range.specs.declared.range.Range.{Range};
 ghost use Rattle.gft_range.specs.Words.{InRange};

@@ -1,4 +1,4 @@
-ghost use Rattle.std.specs.Prelude.{◌≡◌, ◌<◌};
+ghost use Rattle.std.specs.Prelude.{◌≡◌};
 ghost use Rattle.gft_layout.specs.Owner.{IsLayout, IsOwner, IsShape};
 ghost use Rattle.gft_layout.specs.Plan.{plan_of};
 

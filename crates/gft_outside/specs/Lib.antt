@@ -9,6 +9,7 @@ pub mod LaneScripts
 pub mod LaneStates
 pub mod Laws
 pub mod Lists
+pub mod OutLanes
 pub mod Told
 pub mod Totals
 pub mod Whole

@@ -19,6 +19,8 @@ pub mod laws;
 mod list_clock;
 mod memory_control;
 mod memory_lane;
+mod memory_out_lane;
+mod out_lane;
 mod piece;
 #[cfg(test)]
 mod tests;
@@ -35,6 +37,8 @@ pub use lane_item::LaneItem;
 pub use list_clock::ListClock;
 pub use memory_control::MemoryControl;
 pub use memory_lane::MemoryLane;
+pub use memory_out_lane::MemoryOutLane;
+pub use out_lane::OutLane;
 
 /// The most live channels of one lane.
 pub const MAX_LIVE: usize = 64;

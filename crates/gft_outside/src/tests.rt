@@ -13,6 +13,11 @@ fn bytes(alloc: Global, channel: u32, bytes: &[u8]) -> Result<LaneItem, Fail> {
     Ok(LaneItem::Bytes { channel, bytes })
 }
 
+/// The answer that so many bytes came on a channel.
+fn came(channel: u32, count: usize) -> Result<LaneEvent, Failed> {
+    Ok(LaneEvent::Bytes { channel, count })
+}
+
 #[test]
 fn a_lane_gives_its_items(rt: HostRuntime) -> Result<(), Fail> {
     let alloc = rt.alloc();
@@ -30,20 +35,8 @@ fn a_lane_gives_its_items(rt: HostRuntime) -> Result<(), Fail> {
     let rows: [(Result<LaneEvent, Failed>, &[u8]); 9] = [
         (Ok(LaneEvent::Opened(0)), b""),
         (Err(Failed), b""),
-        (
-            Ok(LaneEvent::Bytes {
-                channel: 0,
-                count: 3,
-            }),
-            b"hel",
-        ),
-        (
-            Ok(LaneEvent::Bytes {
-                channel: 0,
-                count: 2,
-            }),
-            b"lo",
-        ),
+        (came(0, 3), b"hel"),
+        (came(0, 2), b"lo"),
         (Ok(LaneEvent::Opened(1)), b""),
         (Ok(LaneEvent::Ended(0)), b""),
         (Ok(LaneEvent::Quiet), b""),
@@ -135,7 +128,34 @@ fn a_clock_gives_its_readings_and_the_absent_say_nothing(rt: HostRuntime) -> Res
     Ok(())
 }
 
-// What comes from outside may be handed to a thread.
+// The second put, behind `abc`, on an out lane with room for 5 bytes.
+#[test]
+fn an_out_lane_keeps_what_is_put(rt: HostRuntime) -> Result<(), Fail> {
+    let alloc = rt.alloc();
+    let rows: [(u32, &[u8], Result<(), Failed>, &[u8]); 5] = [
+        (3, b"de", Ok(()), b"abcde"),
+        (3, b"", Ok(()), b"abc"),
+        (3, b"def", Err(Failed), b"abcde"),
+        (2, b"d", Err(Failed), b"abc"),
+        (2, b"def", Err(Failed), b"abc"),
+    ];
+    for (failing, second, want, bytes) in rows {
+        let mut out = MemoryOutLane::new(alloc, 5, vec![in alloc; failing]?)?;
+        assert!(rt; out.is_open());
+        assert_eq!(rt; out.put(b"abc"), Ok(()));
+        assert!(rt; out.is_open());
+        assert_eq!(rt; out.put(second), want, "{second:?}");
+        assert_eq!(rt; out.is_open(), want.is_ok(), "{second:?}");
+        assert_eq!(rt; out.bytes(), bytes);
+        out.close();
+        out.close();
+        assert!(rt; !out.is_open());
+        assert_eq!(rt; out.bytes(), bytes);
+    }
+    Ok(())
+}
+
+// What comes from outside may be handed to a thread, and what goes there.
 #[test]
 fn two_threads_take_from_their_lanes(rt: HostRuntime) -> Result<(), Fail> {
     let alloc = rt.alloc();
@@ -145,6 +165,7 @@ fn two_threads_take_from_their_lanes(rt: HostRuntime) -> Result<(), Fail> {
     let mut lane = GateLane::new(inner, 1, 3, flag);
     let mut control = MemoryControl::new(Vec::new(alloc), Vec::new(alloc));
     let mut clock = ListClock::new(vec![in alloc; 5]?);
+    let mut out = MemoryOutLane::new(alloc, 5, Vec::new(alloc))?;
     let (event, heard) = thread::join(
         &rt,
         || {
@@ -154,10 +175,12 @@ fn two_threads_take_from_their_lanes(rt: HostRuntime) -> Result<(), Fail> {
         || {
             let mut buf = [0u8; 3];
             let heard = control.poll(&mut buf);
+            out.close();
             (heard, clock.tenths())
         },
     );
     assert_eq!(rt; event, Ok(LaneEvent::Opened(0)));
     assert_eq!(rt; heard, (Ok(Heard::Ended), 5));
+    assert!(rt; !out.is_open());
     Ok(())
 }
