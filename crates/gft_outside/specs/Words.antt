@@ -11,7 +11,8 @@ pub use Rattle.gft_outside.specs.LaneInputs.{Silence, channels_after, is_live, n
 pub use Rattle.gft_outside.specs.LaneScripts.{LaneList, front_in_turn, lane_inputs, lane_state, new_lane}
 pub use Rattle.gft_outside.specs.LaneStates.{EventFits, Gives, LaneEnds, LaneState, ends_lane, given_by}
 pub use Rattle.gft_outside.specs.Lists.{Failures, FailsBy, Script, fails_next}
-pub use Rattle.gft_outside.specs.OutLanes.{OutLaneList, OutLaneState, PutsOut, new_out_lane, out_lane_state}
+pub use Rattle.gft_outside.specs.OutLanes.{OutLaneList, OutLaneState, PutsBy, PutsOut, new_out_lane}
+pub use Rattle.gft_outside.specs.OutLanes.{out_lane_state, put_fails, put_takes}
 pub use Rattle.gft_outside.specs.Told.{Gains, IsOver, Loses}
 pub use Rattle.gft_outside.specs.Totals.{AllAre, AreAgreed, first_of}
 pub use Rattle.gft_outside.specs.Whole.{AreWhole, AreWholeParts, EndsItsChannels, IsSmooth, IsWholeLane}
