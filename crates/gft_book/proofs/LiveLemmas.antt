@@ -1,34 +1,30 @@
 -- What a lock knows stays true.
-use Rattle.std.proofs.Common.{◌≡◌, ◌⊎◌, ℕ, ◌+◌, ◌-◌, ◌^◌, ◌<◌, ◌≤◌, min, List, length, Some, None, Ok, Err, refl, sym, ap, ◌∙◌, subst, ⊎_elim, inl, inr, arith}
+use Rattle.std.proofs.Common.{◌≡◌, ℕ, ◌+◌, ◌<◌, List, length, Some, None, refl, sym, ap, ◌∙◌, subst, ⊎_elim, inl, inr, arith}
 use Rattle.std.specs.Prelude.{Bool, true, false, if◌then◌else◌, Option, Result, IsSome, IfSome, OnErr}
 use Rattle.std.proofs.lemmas.Option.{none-some}
 use Rattle.atomic_table.specs.Seated.{TableId}
-use Rattle.gft_base.specs.Words.{Rose}
 use Rattle.gft_range.specs.declared.Range.{Range}
 use Rattle.gft_range.specs.Words.{HasOffset}
-use Rattle.gft_drive.specs.Words.{DriveState, Image, MayLeave, Sent, total_of}
+use Rattle.gft_drive.specs.Words.{Image, Sent, total_of}
 use Rattle.gft_eod.specs.Words.{eod_refusal, eof_refusal}
 use Rattle.gft_keep.specs.declared.KeepError.{KeepError}
 use Rattle.gft_keep.specs.declared.Standing.TheVariants.{Whole}
 use Rattle.gft_keep.specs.Words.{IsKeep, KeepState}
-use Rattle.gft_core.specs.Words.{held}
 use Rattle.gft_pass.specs.declared.Cause.{Cause}
 use Rattle.gft_pass.specs.declared.Cause.TheVariants.{DriveFailed}
-use Rattle.gft_pass.specs.declared.Numbers.{Numbers}
 use Rattle.gft_pass.specs.Words.{AllPasses, Lane, cause_of_count}
 use Rattle.gft_book.specs.declared.cause.Stop.{Stop}
-use Rattle.gft_book.specs.declared.usage.How.{How}
 use Rattle.gft_book.specs.declared.transfer.Transfer.{Transfer}
 use Rattle.gft_book.specs.declared.transfer.Stage.{Stage}
 use Rattle.gft_book.specs.declared.transfer.Stage.TheVariants.{Rest, Reading, Storing}
-use Rattle.gft_book.specs.Book.{BookState, InTransfer, IsLanePass, IsPass, IsRunning, Moving, Seen, book_of, cause_of, left_out, rest_of, transfer_of}
+use Rattle.gft_book.specs.Book.{BookState, InTransfer, IsLanePass, IsPass, IsRunning, Moving, cause_of, left_out, rest_of, transfer_of}
 use Rattle.gft_book.specs.Facts.{IsBook, IsTransfer, standing_after}
-use Rattle.gft_book.specs.Keeping.{Keeps, KeepsByte, NeverFalls, byte_read}
-use Rattle.gft_book.specs.Calls.{CallsOn, CarriesOn, FindsFailed, HasEodLeft, IsNext, IsOfSource, KeepsCause, KeepsFirst, NotesEnd, RefusesBlock, RefusesEod, RefusesEof, SameTransfer, SendsBlock, SendsEod, SendsTotal, StopsBlock, StopsEod, StopsEof, as_stopped, cause_of_keep}
+use Rattle.gft_book.specs.Keeping.{Keeps, KeepsByte, byte_read}
+use Rattle.gft_book.specs.Calls.{CarriesOn, FindsFailed, HasEodLeft, IsNext, IsOfSource, KeepsCause, KeepsFirst, NotesEnd, RefusesBlock, RefusesEod, RefusesEof, SameTransfer, SendsBlock, SendsEod, SendsTotal, StopsBlock, StopsEod, StopsEof, as_stopped, cause_of_keep}
 use Rattle.gft_book.specs.Live.{BlockIn, EodIn, IsLaneOf, IsLive, IsPassOf, IsStarted, KeptSince, Learns, LearnsCount, SamePass, Start, TotalIn, start_at, start_now, start_of}
-use Rattle.gft_book.proofs.ChoiceLemmas.{if_map, if_some, is_there, off, on_err}
+use Rattle.gft_book.proofs.ChoiceLemmas.{if_some, is_there, on_err}
 use Rattle.gft_book.proofs.KeepLemmas.{Keeps-same, held_byte}
-use Rattle.gft_book.proofs.TransferLemmas.{in_transfer, moved}
+use Rattle.gft_book.proofs.TransferLemmas.{moved}
 
 -- the transfer in a stage
 record There (P : Transfer → Type 0) (stage : Stage) : Type 0 where

@@ -1,5 +1,5 @@
 -- The passes of a transfer, while its calls are made.
-use Rattle.std.proofs.Common.{◌≡◌, ◌⊎◌, ℕ, ◌+◌, ◌<◌, List, length, set, replicate, Ok, Err, refl, sym, ap, ◌∙◌, subst, ⊎_elim, arith}
+use Rattle.std.proofs.Common.{◌≡◌, ℕ, ◌+◌, ◌<◌, List, length, set, Ok, Err, refl, sym, ap, ◌∙◌, subst, ⊎_elim, arith}
 use Rattle.std.proofs.lemmas.List.{length-replicate}
 use Rattle.std.specs.Prelude.{Result, IfOk, OnErr}
 use mathlib.Core.Option.{some}
@@ -10,7 +10,6 @@ use Rattle.gft_pass.specs.Words.{AllPasses, Lane, nothing}
 use Rattle.gft_pass.proofs.Lemmas.{AllPasses-lane, AllPasses-length, AllPasses-set}
 use Rattle.gft_book.specs.declared.cause.Stop.{Stop}
 use Rattle.gft_book.specs.declared.usage.How.{How}
-use Rattle.gft_book.specs.declared.transfer.Transfer.{Transfer}
 use Rattle.gft_book.specs.declared.transfer.Stage.{Stage}
 use Rattle.gft_book.specs.declared.transfer.Stage.TheVariants.{Rest, Reading, Storing}
 use Rattle.gft_book.specs.Book.{BookState, HasAllPasses, IsLanePass, IsStoring, Moving}

@@ -22,7 +22,7 @@ use Rattle.gft_book.specs.declared.transfer.Stage.TheVariants.{Rest, Reading, St
 use Rattle.gft_book.specs.Book.{BookState, InTransfer, Moving, left_out, rest_of, transfer_of}
 use Rattle.gft_book.specs.Facts.{ImagesAreFrom, IsBook, IsEnded, IsFrom, IsHonestCause, IsSentBy, IsTransfer, MarksHold, NumbersAgree, ShowsCause, standing_after}
 use Rattle.gft_book.specs.Calls.{ChangesPass, IsNext, IsOfSource, KeepsCause, NotesEnd, RunsOn, SendsBlock, as_stopped, cause_of_keep, more_bytes, with_cause}
-use Rattle.gft_book.proofs.ChoiceLemmas.{if_make, if_map, if_some, is_there, not_there, some_there}
+use Rattle.gft_book.proofs.ChoiceLemmas.{if_make, if_map, if_some, is_there, some_there}
 use Rattle.gft_book.proofs.NumbersLemmas.{ChangesNumbers, NumbersAgree-set}
 use Rattle.gft_book.proofs.KeepLemmas.{byte_inside, has_same, image_since, union_new, union_old, whole_read}
 use Rattle.gft_book.proofs.OriginLemmas.{HasSent-next, HasSent-same, IsFrom-store, IsSentBy-set}

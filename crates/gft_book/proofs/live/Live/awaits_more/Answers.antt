@@ -1,6 +1,4 @@
-use Rattle.std.proofs.Common.{refl}
-use Rattle.gft_book.specs.Book.{book_of}
-use Rattle.gft_book.proofs.LiveLemmas.{IsLive-carries_on, noted_count, noted_pass}
+use Rattle.gft_book.proofs.LiveLemmas.{IsLive-carries_on}
 use Rattle.gft_book.proofs.live.Live.awaits_more.Goals as goal
 
 pub invariant_of-self : goal.invariant_of-self

@@ -1,4 +1,3 @@
-use Rattle.std.proofs.Common.{refl}
 use Rattle.gft_book.specs.Book.{book_of}
 use Rattle.gft_book.proofs.LiveLemmas.{IsLive-carries_on, learns_err}
 use Rattle.gft_book.proofs.live.Live.store.Goals as goal
