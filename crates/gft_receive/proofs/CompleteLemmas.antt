@@ -29,7 +29,7 @@ use Rattle.gft_book.proofs.Lemmas.{HasNoGap-met}
 use Rattle.gft_receive.specs.declared.limits.Limits.{Limits}
 use Rattle.gft_receive.specs.Booking.{IsBooksCause, numbers_after}
 use Rattle.gft_receive.specs.Causes.{first_cause, silences}
-use Rattle.gft_receive.specs.Complete.{Completes, IsExcused, RunsWhole}
+use Rattle.gft_receive.specs.Complete.{WholeLanesEndWell, IsExcused, RunsWhole}
 use Rattle.gft_receive.specs.Moved.{GaveAll, HasFailedFor, IsDoneWith, IsLanesCause, IsMoved}
 use Rattle.gft_receive.specs.Transfer.{MovesEach, bounds_at}
 use Rattle.gft_receive.proofs.ListLemmas.{at_front, elem_at}
@@ -287,6 +287,6 @@ module _ {L : Type 0} (state : L → LaneState) (limits : Limits) (s : Sent) (re
 -- what becomes of a transfer whose lanes are whole
 pub completes : {L : Type 0} → (state : L → LaneState) (limits : Limits) (sent : List ℕ → Option Sent) (start : Start) (book : BookState) (now : KeepState) (lanes back : List L) (counts : List Numbers) (end : Result SettledFile Cause)
     → IsBook sent book → IsLive start book → InTransfer (λ t. t.roster.counts ≡ counts ++ nothing ∷ []) book.stage → MovesEach state limits lanes back counts
-    → IfErr end (λ cause. InTransfer (SettlesBadly book.keep now cause) book.stage) → Completes state sent limits start lanes back end
+    → IfErr end (λ cause. InTransfer (SettlesBadly book.keep now cause) book.stage) → WholeLanesEndWell state sent limits start lanes back end
 completes state limits sent start book now lanes back counts end b live listed moves badly s rest source stor tells unshifted patient run =
     complete_end state limits s rest lanes back counts unshifted patient run moves sent start book now book.stage end b refl live source stor tells live.transfer listed badly

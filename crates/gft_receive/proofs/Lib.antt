@@ -11,3 +11,6 @@ mod RunLemmas
 mod TallyLemmas
 mod WholeLemmas
 mod CompleteLemmas
+mod BegunLemmas
+-- what the proofs of other crates may cite
+pub mod Lemmas

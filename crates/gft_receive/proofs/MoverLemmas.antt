@@ -18,9 +18,9 @@ use Rattle.gft_receive.specs.declared.halt.Halt.TheVariants.{Done, Stopped, Fail
 use Rattle.gft_receive.specs.Booking.{IsBooksCause, numbers_after}
 use Rattle.gft_receive.specs.Causes.{first_cause}
 use Rattle.gft_receive.specs.Honest.{IsHonestFor, IsHonestLeft, MayBring}
-use Rattle.gft_receive.specs.Moved.{Bounds, EndsAs, GaveAll, IsLanesCause, IsMoved}
-use Rattle.gft_receive.specs.Table.{numbers_of}
-use Rattle.gft_receive.specs.Turns.{Awaits, AwaitsBy, FeedsHonest, HasMoved, Stands, TellsHonest, TurnEnds, Turned, TurnedBy, bounds_of}
+use Rattle.gft_receive.specs.Moved.{Bounds, MoverEnds, GaveAll, IsLanesCause, IsMoved}
+use Rattle.gft_receive.specs.Table.{live_numbers}
+use Rattle.gft_receive.specs.Turns.{Awaits, AwaitsBy, FeedsHonest, HasMoved, StandsBehind, TellsHonest, TurnEnds, Turned, TurnedBy, bounds_of}
 use Rattle.gft_receive.proofs.BookingLemmas.{numbers_after-append}
 use Rattle.gft_receive.proofs.HonestLemmas.{MayBring-front, MayBring-rest, honest_may, some_map}
 
@@ -139,7 +139,7 @@ next_honest sent start state new m pass channel bytes awaits gives =
 
 module _ (sent : List ℕ → Option Sent) (start : Start) (bounds : Bounds) (old : LaneState) (before : Lane) where
   -- before the first
-  pub moved_first : (m : Mover) → Stands [] m → bounds_of m ≡ bounds → old.channels ≡ no_channels → before.count ≡ nothing → IsHonestLeft sent start bounds.shift before.lane old.left → HasMoved sent start bounds old old before m before
+  pub moved_first : (m : Mover) → StandsBehind [] m → bounds_of m ≡ bounds → old.channels ≡ no_channels → before.count ≡ nothing → IsHonestLeft sent start bounds.shift before.lane old.left → HasMoved sent start bounds old old before m before
   moved_first m stands is channels fresh honest = record {
     inputs = [];
     gives = gives_none old;
@@ -238,7 +238,7 @@ module _ (sent : List ℕ → Option Sent) (start : Start) (bounds : Bounds) (ol
       numbers = ap (numbers_after booked) had_all ∙ sym (numbers_after-append (lane_arrivals bounds.shift h.inputs) booked before.count)
 
       moved_as : (last : Lane) → SamePass after last
-          → EndsAs bounds (given ++ h.inputs) rest (Rose old.faults new.faults) (GaveAll new) (numbers_after booked pass.count) last.count → SamePass before last × IsMoved bounds old new before.count last.count
+          → MoverEnds bounds (given ++ h.inputs) rest (Rose old.faults new.faults) (GaveAll new) (numbers_after booked pass.count) last.count → SamePass before last × IsMoved bounds old new before.count last.count
       moved_as last same_last ends = (
         record { table = same_last.table ∙ same.table ∙ h.same.table; lane = same_last.lane ∙ same.lane ∙ h.same.lane },
         record {
@@ -247,7 +247,7 @@ module _ (sent : List ℕ → Option Sent) (start : Start) (bounds : Bounds) (ol
           booked = lane_arrivals bounds.shift h.inputs ++ booked;
           rest = rest;
           front = whole;
-          ends = subst (λ (n : Numbers). EndsAs bounds (given ++ h.inputs) rest (Rose old.faults new.faults) (GaveAll new) n last.count) numbers ends;
+          ends = subst (λ (n : Numbers). MoverEnds bounds (given ++ h.inputs) rest (Rose old.faults new.faults) (GaveAll new) n last.count) numbers ends;
         },
       )
 
@@ -257,18 +257,18 @@ module _ (sent : List ℕ → Option Sent) (start : Start) (bounds : Bounds) (ol
       shows_since b cause (inr (none, inr link)) = let rose = link.1 in let later = h.later in inr (none, inr (link.0, omega (arith, rose, later)))
 
       pub ends_done : TurnEnds {A = Unit {0}} (bounds_of m) (given ++ h.inputs) rest (Rose state.faults new.faults) (GaveAll new) now (Err Done) (numbers_after booked pass.count) after.count
-          → EndsAs bounds (given ++ h.inputs) rest (Rose old.faults new.faults) (GaveAll new) (numbers_after booked pass.count) after.count
+          → MoverEnds bounds (given ++ h.inputs) rest (Rose old.faults new.faults) (GaveAll new) (numbers_after booked pass.count) after.count
       ends_done e = inl (record { numbers = e.1; done = e.2; all = e.0; none = subst (λ (b : Bounds). first_cause b.lane b.shift (given ++ h.inputs) ≡ None) h.bounds e.3 })
 
       pub ends_stopped : TurnEnds {A = Unit {0}} (bounds_of m) (given ++ h.inputs) rest (Rose state.faults new.faults) (GaveAll new) now (Err Stopped) (numbers_after booked pass.count) after.count
-          → EndsAs bounds (given ++ h.inputs) rest (Rose old.faults new.faults) (GaveAll new) (numbers_after booked pass.count) after.count
+          → MoverEnds bounds (given ++ h.inputs) rest (Rose old.faults new.faults) (GaveAll new) (numbers_after booked pass.count) after.count
       ends_stopped e = ⊎_elim
           (λ (stopped : after.count ≡ as_stopped (numbers_after booked pass.count)). inr (inl stopped))
           (λ (kept : (cause : Cause) × IsBooksCause rest cause × (after.count ≡ with_cause cause (numbers_after booked pass.count))). inr (inr (record { cause = kept.0; kept = kept.2; shown = inr kept.1 })))
           e
 
       pub ends_failed : (cause : Cause) (last : Lane) → TurnEnds {A = Unit {0}} (bounds_of m) (given ++ h.inputs) rest (Rose state.faults new.faults) (GaveAll new) now (Err (Failed cause)) (numbers_after booked pass.count) after.count
-          → Learns (λ kept. kept ≡ cause) after.count last.count → EndsAs bounds (given ++ h.inputs) rest (Rose old.faults new.faults) (GaveAll new) (numbers_after booked pass.count) last.count
+          → Learns (λ kept. kept ≡ cause) after.count last.count → MoverEnds bounds (given ++ h.inputs) rest (Rose old.faults new.faults) (GaveAll new) (numbers_after booked pass.count) last.count
       ends_failed cause last e learned = ⊎_elim
           (λ (stopped : last.count ≡ as_stopped after.count). inr (inl (stopped ∙ ap as_stopped e.0)))
           (λ (kept : (k : Cause) × (k ≡ cause) × (last.count ≡ with_cause k after.count)). inr (inr (record {

@@ -26,8 +26,8 @@ use Rattle.gft_receive.specs.Booking.{numbers_after}
 use Rattle.gft_receive.specs.Causes.{first_cause, refused_in}
 use Rattle.gft_receive.specs.Honest.{MayBring}
 use Rattle.gft_receive.specs.Moved.{IsLanesCause}
-use Rattle.gft_receive.specs.Table.{AreApart, EachReads, HoldsChannels, IsAtPlace, ReadsStream, numbers_of}
-use Rattle.gft_receive.specs.Turns.{FeedsHonest, IsFedWhole, IsUnfed, Stands, Turned, bounds_of}
+use Rattle.gft_receive.specs.Table.{AreApart, EachReads, HoldsChannels, IsAtPlace, ReadsStream, live_numbers}
+use Rattle.gft_receive.specs.Turns.{FeedsHonest, IsFedWhole, IsUnfed, StandsBehind, Turned, bounds_of}
 use Rattle.gft_receive.proofs.CauseLemmas.{channels_piece, count_piece, piece-bad, piece-long, piece-none, refused_in-last, refused_in-none}
 use Rattle.gft_receive.proofs.FeedLemmas.{HasNoBad-append, eods-append}
 use Rattle.gft_receive.proofs.ListLemmas.{refilled}
@@ -91,35 +91,35 @@ stream_short channel (Came n value ∷ inputs) = cases (n == channel) (stream_sh
 
 -- ---- the table
 
-numbers-set : (table : List LiveChannel) (place : ℕ) (found live : LiveChannel) → slice_get table place ≡ Some found → live.number ≡ found.number → numbers_of (set table place live) ≡ numbers_of table
+numbers-set : (table : List LiveChannel) (place : ℕ) (found live : LiveChannel) → slice_get table place ≡ Some found → live.number ≡ found.number → live_numbers (set table place live) ≡ live_numbers table
 numbers-set [] place found live at same = cc
-numbers-set (first ∷ table) zero found live at same = ap (λ (n : ℕ). n ∷ numbers_of table) (same ∙ ap (λ (l : LiveChannel). l.number) (sym (same_live first found at)))
+numbers-set (first ∷ table) zero found live at same = ap (λ (n : ℕ). n ∷ live_numbers table) (same ∙ ap (λ (l : LiveChannel). l.number) (sym (same_live first found at)))
 numbers-set (first ∷ table) (suc place) found live at same = ap (λ (ns : List ℕ). first.number ∷ ns) (numbers-set table place found live at same)
 
-each-others : (shift channel : ℕ) (bytes : List ℕ) (inputs : List LaneInput) (table : List LiveChannel) → is_live channel (numbers_of table) ≡ false → EachReads shift inputs table → EachReads shift (reverse (map (λ value. Came channel value) bytes) ++ inputs) table
+each-others : (shift channel : ℕ) (bytes : List ℕ) (inputs : List LaneInput) (table : List LiveChannel) → is_live channel (live_numbers table) ≡ false → EachReads shift inputs table → EachReads shift (reverse (map (λ value. Came channel value) bytes) ++ inputs) table
 each-others shift channel bytes inputs [] none each = tt
 each-others shift channel bytes inputs (first ∷ table) none each =
-    let tests = or_false (first.number == channel) (is_live channel (numbers_of table)) none in (
+    let tests = or_false (first.number == channel) (is_live channel (live_numbers table)) none in (
       subst (λ (s : List ℕ). ReadsStream shift s first.reader) (sym (stream_other first.number channel bytes inputs (apart_swap first.number channel tests.0))) each.0,
       each-others shift channel bytes inputs table tests.1 each.1,
     )
 
-each-fed : (shift channel most : ℕ) (bytes : List ℕ) (inputs : List LaneInput) (table : List LiveChannel) (place : ℕ) (found live : LiveChannel) → AreApart most (numbers_of table) → slice_get table place ≡ Some found → found.number ≡ channel
+each-fed : (shift channel most : ℕ) (bytes : List ℕ) (inputs : List LaneInput) (table : List LiveChannel) (place : ℕ) (found live : LiveChannel) → AreApart most (live_numbers table) → slice_get table place ≡ Some found → found.number ≡ channel
     → live.number ≡ channel → ReadsStream shift (stream channel inputs ++ bytes) live.reader → EachReads shift inputs table → EachReads shift (reverse (map (λ value. Came channel value) bytes) ++ inputs) (set table place live)
 each-fed shift channel most bytes inputs [] place found live apart at number new reads each = cc
 each-fed shift channel most bytes inputs (first ∷ table) zero found live apart at number new reads each =
     let is : first.number ≡ channel = ap (λ (l : LiveChannel). l.number) (same_live first found at) ∙ number in (
       subst (λ (n : ℕ). ReadsStream shift (stream n (reverse (map (λ value. Came channel value) bytes) ++ inputs)) live.reader) (sym new)
           (subst (λ (s : List ℕ). ReadsStream shift s live.reader) (sym (stream_came channel bytes inputs)) reads),
-      each-others shift channel bytes inputs table (subst (λ (c : ℕ). is_live c (numbers_of table) ≡ false) is apart.1) each.1,
+      each-others shift channel bytes inputs table (subst (λ (c : ℕ). is_live c (live_numbers table) ≡ false) is apart.1) each.1,
     )
 each-fed shift channel most bytes inputs (first ∷ table) (suc place) found live apart at number new reads each =
-    let differs : (first.number == channel) ≡ false = ne_eqb first.number channel (λ e. no_both (is_live first.number (numbers_of table)) (live_at table first.number place found at (number ∙ sym e)) apart.1) in (
+    let differs : (first.number == channel) ≡ false = ne_eqb first.number channel (λ e. no_both (is_live first.number (live_numbers table)) (live_at table first.number place found at (number ∙ sym e)) apart.1) in (
       subst (λ (s : List ℕ). ReadsStream shift s first.reader) (sym (stream_other first.number channel bytes inputs (apart_swap first.number channel differs))) each.0,
       each-fed shift channel most bytes inputs table place found live apart.2 at number new reads each.1,
     )
 
-apart_below : (most channel : ℕ) (table : List LiveChannel) (place : ℕ) (found : LiveChannel) → AreApart most (numbers_of table) → slice_get table place ≡ Some found → found.number ≡ channel → channel < most
+apart_below : (most channel : ℕ) (table : List LiveChannel) (place : ℕ) (found : LiveChannel) → AreApart most (live_numbers table) → slice_get table place ≡ Some found → found.number ≡ channel → channel < most
 apart_below most channel [] place found apart at number = cc
 apart_below most channel (first ∷ table) zero found apart at number = subst (λ (n : ℕ). n < most) (ap (λ (l : LiveChannel). l.number) (same_live first found at) ∙ number) apart.0
 apart_below most channel (first ∷ table) (suc place) found apart at number = apart_below most channel table place found apart.2 at number
@@ -141,10 +141,10 @@ written_back items table place live same =
 -- ---- a mover that was fed
 
 module _ (channel place : ℕ) (bytes : List ℕ) (m : Mover) (p : IsAtPlace m.channels.table.items channel place) where
-  reads_here : (inputs : List LaneInput) → Stands inputs m → ReadsStream m.channels.shift (stream channel inputs) p.found.reader
+  reads_here : (inputs : List LaneInput) → StandsBehind inputs m → ReadsStream m.channels.shift (stream channel inputs) p.found.reader
   reads_here inputs s = subst (λ (n : ℕ). ReadsStream m.channels.shift (stream n inputs) p.found.reader) p.number (each-at m.channels.shift inputs m.channels.table.items place p.found s.channels.each p.at)
 
-  pub piece_room : (inputs : List LaneInput) → Stands inputs m → m.taken + length bytes ≤ MAX_BYTES → p.found.reader.taken + length bytes ≤ MAX_BYTES
+  pub piece_room : (inputs : List LaneInput) → StandsBehind inputs m → m.taken + length bytes ≤ MAX_BYTES → p.found.reader.taken + length bytes ≤ MAX_BYTES
   piece_room inputs s room =
       let most = (reads_here inputs s).most in
       let short = stream_short channel inputs in
@@ -156,10 +156,10 @@ module _ (channel place : ℕ) (bytes : List ℕ) (m : Mover) (p : IsAtPlace m.c
       subst (MayBring sent start pass.lane pass.count) (gained_is m.channels.shift (stream channel honest.0) p.found.reader bytes (reads_here honest.0 honest.1)) honest.2
 
   -- what the bytes add to the lane's arrivals
-  adds : (inputs : List LaneInput) → Stands inputs m → lane_arrivals m.channels.shift (reverse (map (λ value. Came channel value) bytes) ++ inputs) ≡ lane_arrivals m.channels.shift inputs ++ to_come p.found.reader bytes
+  adds : (inputs : List LaneInput) → StandsBehind inputs m → lane_arrivals m.channels.shift (reverse (map (λ value. Came channel value) bytes) ++ inputs) ≡ lane_arrivals m.channels.shift inputs ++ to_come p.found.reader bytes
   adds inputs s = cuts m.channels.shift channel bytes inputs ∙ ap (λ (l : List Arrival). lane_arrivals m.channels.shift inputs ++ l) (gained_is m.channels.shift (stream channel inputs) p.found.reader bytes (reads_here inputs s))
 
-  pub piece_stopped : {A : Type 0} → (inputs : List LaneInput) (now : Mover) (before after : Lane) → Stands inputs m → IsUnfed p.found.reader bytes before after Stop
+  pub piece_stopped : {A : Type 0} → (inputs : List LaneInput) (now : Mover) (before after : Lane) → StandsBehind inputs m → IsUnfed p.found.reader bytes before after Stop
       → Turned {A = A} (bounds_of m) inputs (reverse (map (λ value. Came channel value) bytes)) ⊥ ⊥ now before after (Err Stopped)
   piece_stopped inputs now before after s u = record {
     booked = u.booked;
@@ -169,10 +169,10 @@ module _ (channel place : ℕ) (bytes : List ℕ) (m : Mover) (p : IsAtPlace m.c
     ends = u.so;
   }
 
-  none_refused : (inputs : List LaneInput) → Stands inputs m → refused_in (arrivals m.channels.shift (stream channel inputs)) ≡ None
+  none_refused : (inputs : List LaneInput) → StandsBehind inputs m → refused_in (arrivals m.channels.shift (stream channel inputs)) ≡ None
   none_refused inputs s = refused_in-none (arrivals m.channels.shift (stream channel inputs)) (reads_here inputs s).sound
 
-  pub piece_refused : {A : Type 0} → (inputs : List LaneInput) (now : Mover) (before after : Lane) (bad : BadBlock) → Stands inputs m → m.taken + length bytes ≤ MAX_BYTES → IsUnfed p.found.reader bytes before after (Refused bad)
+  pub piece_refused : {A : Type 0} → (inputs : List LaneInput) (now : Mover) (before after : Lane) (bad : BadBlock) → StandsBehind inputs m → m.taken + length bytes ≤ MAX_BYTES → IsUnfed p.found.reader bytes before after (Refused bad)
       → Turned {A = A} (bounds_of m) inputs (reverse (map (λ value. Came channel value) bytes)) ⊥ ⊥ now before after (Err (Failed (BadBlockCame m.lane channel bad)))
   piece_refused inputs now before after bad s room u =
       let r = reads_here inputs s in
@@ -189,14 +189,14 @@ module _ (channel place : ℕ) (bytes : List ℕ) (m : Mover) (p : IsAtPlace m.c
         ends = (u.so.1, inl (piece-bad m.lane m.channels.shift channel bytes inputs (refusal_of bad) s.none (omega (arith, taken, room)) (none_refused inputs s) comes), tt);
       }
 
-  fed_refused : (inputs : List LaneInput) (now : Reader) (before after : Lane) → Stands inputs m → IsFedWhole p.found.reader now bytes before after → refused_in (arrivals m.channels.shift (stream channel inputs ++ bytes)) ≡ None
+  fed_refused : (inputs : List LaneInput) (now : Reader) (before after : Lane) → StandsBehind inputs m → IsFedWhole p.found.reader now bytes before after → refused_in (arrivals m.channels.shift (stream channel inputs ++ bytes)) ≡ None
   fed_refused inputs now before after s f =
       refused_in-none (arrivals m.channels.shift (stream channel inputs ++ bytes)) (reads_more m.channels.shift (stream channel inputs) bytes p.found.reader now before after (reads_here inputs s) f).sound
 
-  whole_front : (inputs : List LaneInput) → Stands inputs m → lane_arrivals m.channels.shift (reverse (map (λ value. Came channel value) bytes) ++ inputs) ≡ lane_arrivals m.channels.shift inputs ++ (to_come p.found.reader bytes ++ [])
+  whole_front : (inputs : List LaneInput) → StandsBehind inputs m → lane_arrivals m.channels.shift (reverse (map (λ value. Came channel value) bytes) ++ inputs) ≡ lane_arrivals m.channels.shift inputs ++ (to_come p.found.reader bytes ++ [])
   whole_front inputs s = adds inputs s ∙ ap (λ (l : List Arrival). lane_arrivals m.channels.shift inputs ++ l) (sym (append-nil (to_come p.found.reader bytes)))
 
-  pub piece_long : {A : Type 0} → (inputs : List LaneInput) (now : Mover) (reader : Reader) (before after : Lane) → Stands inputs m → 0 < length bytes → m.taken + length bytes ≤ MAX_BYTES → MAX_BYTES ≤ m.taken + length bytes → IsFedWhole p.found.reader reader bytes before after
+  pub piece_long : {A : Type 0} → (inputs : List LaneInput) (now : Mover) (reader : Reader) (before after : Lane) → StandsBehind inputs m → 0 < length bytes → m.taken + length bytes ≤ MAX_BYTES → MAX_BYTES ≤ m.taken + length bytes → IsFedWhole p.found.reader reader bytes before after
       → Turned {A = A} (bounds_of m) inputs (reverse (map (λ value. Came channel value) bytes)) ⊥ ⊥ now before after (Err (Failed (StreamTooLong m.lane)))
   piece_long inputs now reader before after s some room long f =
       let taken = s.taken in
@@ -208,7 +208,7 @@ module _ (channel place : ℕ) (bytes : List ℕ) (m : Mover) (p : IsAtPlace m.c
         ends = (f.numbers, inl (piece-long m.lane m.channels.shift channel bytes inputs s.none some (omega (arith, taken, room, long)) (fed_refused inputs reader before after s f)), tt);
       }
 
-  pub piece_goes : {A : Type 0} → (inputs : List LaneInput) (now : Mover) (reader : Reader) (before after : Lane) (answer : A) → Stands inputs m → m.taken + length bytes < MAX_BYTES → IsFedWhole p.found.reader reader bytes before after
+  pub piece_goes : {A : Type 0} → (inputs : List LaneInput) (now : Mover) (reader : Reader) (before after : Lane) (answer : A) → StandsBehind inputs m → m.taken + length bytes < MAX_BYTES → IsFedWhole p.found.reader reader bytes before after
       → now.channels.table.items ≡ set m.channels.table.items place (record { number = p.found.number; reader = reader }) → now.channels.opened ≡ m.channels.opened → now.channels.shift ≡ m.channels.shift
       → now.lane ≡ m.lane → now.taken ≡ m.taken + length bytes → now.patience.quiets ≡ 0 → now.patience.idle ≡ m.patience.idle
       → Turned {A = A} (bounds_of m) inputs (reverse (map (λ value. Came channel value) bytes)) ⊥ ⊥ now before after (Ok answer)
@@ -216,7 +216,7 @@ module _ (channel place : ℕ) (bytes : List ℕ) (m : Mover) (p : IsAtPlace m.c
       let given = reverse (map (λ value. Came channel value) bytes) in
       let live : LiveChannel = record { number = p.found.number; reader = reader } in
       let h = s.channels in
-      let numbers : numbers_of now.channels.table.items ≡ numbers_of m.channels.table.items = ap numbers_of table ∙ numbers-set m.channels.table.items place p.found live p.at refl in
+      let numbers : live_numbers now.channels.table.items ≡ live_numbers m.channels.table.items = ap live_numbers table ∙ numbers-set m.channels.table.items place p.found live p.at refl in
       let same_channels = channels_piece channel bytes inputs in
       let count = count_piece channel bytes inputs in
       let taken = s.taken in
@@ -237,7 +237,7 @@ module _ (channel place : ℕ) (bytes : List ℕ) (m : Mover) (p : IsAtPlace m.c
               limit = omega (arith, limit, shift);
               live = numbers ∙ h.live ∙ sym (ap (λ c. c.live) same_channels);
               opened = opened ∙ h.opened ∙ sym (ap (λ c. c.opened) same_channels);
-              apart = subst (λ (n : ℕ). AreApart n (numbers_of now.channels.table.items)) (sym opened) (subst (AreApart m.channels.opened) (sym numbers) h.apart);
+              apart = subst (λ (n : ℕ). AreApart n (live_numbers now.channels.table.items)) (sym opened) (subst (AreApart m.channels.opened) (sym numbers) h.apart);
               each = subst (λ (n : ℕ). EachReads n (given ++ inputs) now.channels.table.items) (sym shift)
                   (subst (EachReads m.channels.shift (given ++ inputs)) (sym table) (each-fed m.channels.shift channel m.channels.opened bytes inputs m.channels.table.items place p.found live h.apart p.at p.number p.number reads h.each));
               unopened = λ c le. stream_other c channel bytes inputs (ne_eqb channel c (λ e. omega (arith, e, below, le, opened))) ∙ h.unopened c (omega (arith, le, opened));

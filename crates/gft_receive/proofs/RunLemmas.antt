@@ -27,7 +27,7 @@ use Rattle.gft_receive.specs.declared.limits.Limits.{Limits}
 use Rattle.gft_receive.specs.declared.transfer.LaneWork.{LaneWork}
 use Rattle.gft_receive.specs.Honest.{IsHonestLeft}
 use Rattle.gft_receive.specs.Moved.{IsMoved}
-use Rattle.gft_receive.specs.Transfer.{AreFresh, AreMet, AreReady, EndsBadly, EndsWell, IsReady, IsWorked, MovesEach, ShowsGap, bounds_at}
+use Rattle.gft_receive.specs.Transfer.{AreFresh, AreMet, AreReady, EndsBadly, EndsWell, IsLaneReady, IsWorked, MovesEach, ShowsGap, bounds_at}
 use Rattle.gft_receive.proofs.HonestLemmas.{some_map}
 use Rattle.gft_receive.proofs.ListLemmas.{at_front, at_last, at_map, elem_at, mapped_at, same_some, set_last}
 
@@ -69,7 +69,7 @@ module _ {L : Type 0} where
         let lt = slice_get_within works k work at in
         omega (arith, lt, length-append (map pass_of works) (teller ∷ []), length-map works pass_of)
 
-    pub all_ready : (state : L → LaneState) (sent : List ℕ → Option Sent) (limits : Limits) (book : BookState) → book.stage ≡ stage → AreFresh (map pass_of works ++ teller ∷ []) → AreReady state sent (start_now book) limits.shift (map lane_of works) → limits.shift ≤ LIMIT → All (IsReady state sent (start_now book) limits) works
+    pub all_ready : (state : L → LaneState) (sent : List ℕ → Option Sent) (limits : Limits) (book : BookState) → book.stage ≡ stage → AreFresh (map pass_of works ++ teller ∷ []) → AreReady state sent (start_now book) limits.shift (map lane_of works) → limits.shift ≤ LIMIT → All (IsLaneReady state sent (start_now book) limits) works
     all_ready state sent limits book is fresh ready shift k d lt =
         let work = slice_index_or works k d in
         let at = slice_get-get_or works k d lt in

@@ -8,7 +8,7 @@ use Rattle.gft_outside.specs.Words.{Came, Ended, HasNoBad, LaneInput, Opened, Si
 use Rattle.gft_outside.proofs.Lemmas.{gained_behind, stream_came, stream_other}
 use Rattle.gft_receive.specs.declared.channels.LiveChannel.{LiveChannel}
 use Rattle.gft_receive.specs.declared.channels.Channels.{Channels}
-use Rattle.gft_receive.specs.Table.{AreApart, Closes, EachReads, HoldsChannels, IsAtPlace, Opens, ReadsStream, numbers_of}
+use Rattle.gft_receive.specs.Table.{AreApart, TakesOut, EachReads, HoldsChannels, IsAtPlace, PutsIn, ReadsStream, live_numbers}
 
 -- ---- tests
 
@@ -27,34 +27,34 @@ apart_swap a b is = ne_eqb b a (λ e. no_both (a == b) (eq-eqb a b (sym e)) is)
 
 -- ---- numbers
 
-never_live : (table : List LiveChannel) (channel : ℕ) → ((k : ℕ) (live : LiveChannel) → k < length table → slice_get table k ≡ Some live → live.number ≡ channel → ⊥) → is_live channel (numbers_of table) ≡ false
+never_live : (table : List LiveChannel) (channel : ℕ) → ((k : ℕ) (live : LiveChannel) → k < length table → slice_get table k ≡ Some live → live.number ≡ channel → ⊥) → is_live channel (live_numbers table) ≡ false
 never_live [] channel none = refl
 never_live (live ∷ table) channel none =
-    both_false (live.number == channel) (is_live channel (numbers_of table)) (ne_eqb live.number channel (none 0 live (omega arith) refl))
+    both_false (live.number == channel) (is_live channel (live_numbers table)) (ne_eqb live.number channel (none 0 live (omega arith) refl))
     (never_live table channel (λ k other lt at is. none (suc k) other (omega (arith, lt)) at is))
 
-pub never_live_below : (table : List LiveChannel) (channel n : ℕ) → n ≡ length table → ((k : ℕ) (live : LiveChannel) → k < n → slice_get table k ≡ Some live → live.number ≡ channel → ⊥) → is_live channel (numbers_of table) ≡ false
+pub never_live_below : (table : List LiveChannel) (channel n : ℕ) → n ≡ length table → ((k : ℕ) (live : LiveChannel) → k < n → slice_get table k ≡ Some live → live.number ≡ channel → ⊥) → is_live channel (live_numbers table) ≡ false
 never_live_below table channel n all none = never_live table channel (λ k live lt at is. none k live (omega (arith, lt, all)) at is)
 
 pub same_live : (a b : LiveChannel) → Some a ≡ Some b → a ≡ b
 same_live a b e = cc
 
-pub live_at : (table : List LiveChannel) (channel place : ℕ) (found : LiveChannel) → slice_get table place ≡ Some found → found.number ≡ channel → is_live channel (numbers_of table) ≡ true
+pub live_at : (table : List LiveChannel) (channel place : ℕ) (found : LiveChannel) → slice_get table place ≡ Some found → found.number ≡ channel → is_live channel (live_numbers table) ≡ true
 live_at [] channel place found at number = cc
 live_at (live ∷ table) channel zero found at number =
     let is : live.number ≡ channel = ap (λ (l : LiveChannel). l.number) (same_live live found at) ∙ number in
-    ap (λ (b : Bool). b || is_live channel (numbers_of table)) (eq-eqb live.number channel is)
+    ap (λ (b : Bool). b || is_live channel (live_numbers table)) (eq-eqb live.number channel is)
 live_at (live ∷ table) channel (suc place) found at number = cases (live.number == channel) (live_at table channel place found at number)
   where
-    cases : (b : Bool) → is_live channel (numbers_of table) ≡ true → (b || is_live channel (numbers_of table)) ≡ true
+    cases : (b : Bool) → is_live channel (live_numbers table) ≡ true → (b || is_live channel (live_numbers table)) ≡ true
     cases true later = refl
     cases false later = later
 
-pub numbers-opened : (table : List LiveChannel) (live : LiveChannel) → numbers_of (table ++ live ∷ []) ≡ numbers_of table ++ live.number ∷ []
+pub numbers-opened : (table : List LiveChannel) (live : LiveChannel) → live_numbers (table ++ live ∷ []) ≡ live_numbers table ++ live.number ∷ []
 numbers-opened [] live = refl
 numbers-opened (first ∷ table) live = ap (λ (ns : List ℕ). first.number ∷ ns) (numbers-opened table live)
 
-pub length-numbers : (table : List LiveChannel) → length (numbers_of table) ≡ length table
+pub length-numbers : (table : List LiveChannel) → length (live_numbers table) ≡ length table
 length-numbers [] = refl
 length-numbers (first ∷ table) = let h = length-numbers table in omega (arith, h)
 
@@ -97,15 +97,15 @@ apart-opened most [] apart = (omega arith, refl, tt)
 apart-opened most (n ∷ ns) apart = let lt = apart.0 in (omega (arith, lt), is_live-opened n most ns apart.1 apart.0, apart-opened most ns apart.2)
 
 -- the table without the channel at this place
-numbers-removed : (most channel place : ℕ) (table : List LiveChannel) (found : LiveChannel) → AreApart most (numbers_of table) → slice_get table place ≡ Some found → found.number ≡ channel → numbers_of (remove table place) ≡ without channel (numbers_of table)
+numbers-removed : (most channel place : ℕ) (table : List LiveChannel) (found : LiveChannel) → AreApart most (live_numbers table) → slice_get table place ≡ Some found → found.number ≡ channel → live_numbers (remove table place) ≡ without channel (live_numbers table)
 numbers-removed most channel place [] found apart at number = cc
 numbers-removed most channel zero (live ∷ table) found apart at number =
     let is : live.number ≡ channel = ap (λ (l : LiveChannel). l.number) (same_live live found at) ∙ number in
-    let ns = numbers_of table in
+    let ns = live_numbers table in
     let gone : is_live channel ns ≡ false = subst (λ (c : ℕ). is_live c ns ≡ false) is apart.1 in
     sym (ap (λ (b : Bool). if b then without channel ns else live.number ∷ without channel ns) (eq-eqb live.number channel is) ∙ without-none channel ns gone)
 numbers-removed most channel (suc place) (live ∷ table) found apart at number =
-    let ns = numbers_of table in
+    let ns = live_numbers table in
     let differs : (live.number == channel) ≡ false = ne_eqb live.number channel (λ e. no_both (is_live live.number ns) (live_at table live.number place found at (number ∙ sym e)) apart.1) in
     ap (λ (l : List ℕ). live.number ∷ l) (numbers-removed most channel place table found apart.2 at number)
     ∙ sym (ap (λ (b : Bool). if b then without channel ns else live.number ∷ without channel ns) differs)
@@ -151,34 +151,34 @@ each-at shift inputs (first ∷ table) (suc place) live each at = each-at shift 
 
 -- ---- a table behind an input
 
-pub holds-opened : (inputs : List LaneInput) (channel : ℕ) (old new : Channels) → HoldsChannels inputs old → channel ≡ old.opened → Opens channel old new → HoldsChannels (Opened channel ∷ inputs) new
+pub holds-opened : (inputs : List LaneInput) (channel : ℕ) (old new : Channels) → HoldsChannels inputs old → channel ≡ old.opened → PutsIn channel old new → HoldsChannels (Opened channel ∷ inputs) new
 holds-opened inputs channel old new h next o =
     let live : LiveChannel = record { number = channel; reader = o.reader } in
-    let numbers : numbers_of new.table.items ≡ numbers_of old.table.items ++ channel ∷ [] = ap numbers_of o.table ∙ numbers-opened old.table.items live in
+    let numbers : live_numbers new.table.items ≡ live_numbers old.table.items ++ channel ∷ [] = ap live_numbers o.table ∙ numbers-opened old.table.items live in
     let fresh : stream channel inputs ≡ [] = h.unopened channel (omega (arith, next)) in
     let one : ReadsStream old.shift (stream channel inputs) o.reader = subst (λ (s : List ℕ). ReadsStream old.shift s o.reader) (sym fresh) (reads_new old.shift o.reader o.untaken o.undone o.to_come) in
-    let apart : AreApart (old.opened + 1) (numbers_of old.table.items ++ channel ∷ []) = subst (λ (c : ℕ). AreApart (old.opened + 1) (numbers_of old.table.items ++ c ∷ [])) (sym next) (apart-opened old.opened (numbers_of old.table.items) h.apart) in
+    let apart : AreApart (old.opened + 1) (live_numbers old.table.items ++ channel ∷ []) = subst (λ (c : ℕ). AreApart (old.opened + 1) (live_numbers old.table.items ++ c ∷ [])) (sym next) (apart-opened old.opened (live_numbers old.table.items) h.apart) in
     let a = h.limit in
     record {
       limit = omega (arith, a, o.shift);
       live = numbers ∙ ap (λ (l : List ℕ). l ++ channel ∷ []) h.live;
       opened = o.opened ∙ ap (λ (n : ℕ). n + 1) h.opened;
-      apart = subst (λ (m : ℕ). AreApart m (numbers_of new.table.items)) (sym o.opened) (subst (AreApart (old.opened + 1)) (sym numbers) apart);
+      apart = subst (λ (m : ℕ). AreApart m (live_numbers new.table.items)) (sym o.opened) (subst (AreApart (old.opened + 1)) (sym numbers) apart);
       each = subst (λ (s : ℕ). EachReads s (Opened channel ∷ inputs) new.table.items) (sym o.shift)
           (subst (EachReads old.shift (Opened channel ∷ inputs)) (sym o.table) (each-opened old.shift channel inputs old.table.items live h.each one));
       unopened = λ c le. h.unopened c (let more = o.opened in omega (arith, more, le));
     }
 
-pub holds-closed : (inputs : List LaneInput) (channel : ℕ) (reader : Reader) (old new : Channels) → HoldsChannels inputs old → Closes channel reader old new → HoldsChannels (Ended channel ∷ inputs) new
+pub holds-closed : (inputs : List LaneInput) (channel : ℕ) (reader : Reader) (old new : Channels) → HoldsChannels inputs old → TakesOut channel reader old new → HoldsChannels (Ended channel ∷ inputs) new
 holds-closed inputs channel reader old new h c =
     let live : LiveChannel = record { number = channel; reader = reader } in
-    let numbers : numbers_of new.table.items ≡ without channel (numbers_of old.table.items) = ap numbers_of c.table ∙ numbers-removed old.opened channel c.place old.table.items live h.apart c.at refl in
+    let numbers : live_numbers new.table.items ≡ without channel (live_numbers old.table.items) = ap live_numbers c.table ∙ numbers-removed old.opened channel c.place old.table.items live h.apart c.at refl in
     let a = h.limit in
     record {
       limit = omega (arith, a, c.shift);
       live = numbers ∙ ap (without channel) h.live;
       opened = c.opened ∙ h.opened;
-      apart = subst (λ (m : ℕ). AreApart m (numbers_of new.table.items)) (sym c.opened) (subst (AreApart old.opened) (sym numbers) (apart-without old.opened channel (numbers_of old.table.items) h.apart));
+      apart = subst (λ (m : ℕ). AreApart m (live_numbers new.table.items)) (sym c.opened) (subst (AreApart old.opened) (sym numbers) (apart-without old.opened channel (live_numbers old.table.items) h.apart));
       each = subst (λ (s : ℕ). EachReads s (Ended channel ∷ inputs) new.table.items) (sym c.shift)
           (subst (EachReads old.shift (Ended channel ∷ inputs)) (sym c.table) (each-removed old.shift c.place (Ended channel ∷ inputs) old.table.items (each-ended old.shift channel inputs old.table.items h.each)));
       unopened = λ n le. h.unopened n (let same = c.opened in omega (arith, same, le));

@@ -12,17 +12,17 @@ use Rattle.gft_receive.specs.declared.channels.Channels.{Channels}
 use Rattle.gft_receive.specs.declared.mover.Mover.{Mover}
 use Rattle.gft_receive.specs.Causes.{cause_at, first_cause}
 use Rattle.gft_receive.specs.Moved.{IsLanesCause}
-use Rattle.gft_receive.specs.Table.{Closes, HoldsChannels, Opens, ReadsStream}
-use Rattle.gft_receive.specs.Turns.{Stands, bounds_of}
+use Rattle.gft_receive.specs.Table.{TakesOut, HoldsChannels, PutsIn, ReadsStream}
+use Rattle.gft_receive.specs.Turns.{StandsBehind, bounds_of}
 use Rattle.gft_receive.proofs.CauseLemmas.{first-none, first-some, lost-none, lost-some, too_many-none, too_many-some}
 use Rattle.gft_receive.proofs.TableLemmas.{each-at, holds-closed, holds-opened, holds-silent, length-numbers}
 
 -- ---- a channel is opened
 
-live_count : (inputs : List LaneInput) (m : Mover) → Stands inputs m → length (channels_after inputs no_channels).live ≡ length m.channels.table.items
+live_count : (inputs : List LaneInput) (m : Mover) → StandsBehind inputs m → length (channels_after inputs no_channels).live ≡ length m.channels.table.items
 live_count inputs m s = ap (λ (l : List ℕ). length l) (sym s.channels.live) ∙ length-numbers m.channels.table.items
 
-pub opened_shows : (inputs : List LaneInput) (channel opened live : ℕ) (m : Mover) → Stands inputs m → (MAX_LIVE ≤ length m.channels.table.items) ⊎ (MAX_OPENED ≤ m.channels.opened)
+pub opened_shows : (inputs : List LaneInput) (channel opened live : ℕ) (m : Mover) → StandsBehind inputs m → (MAX_LIVE ≤ length m.channels.table.items) ⊎ (MAX_OPENED ≤ m.channels.opened)
     → opened ≡ m.channels.opened → live ≡ length m.channels.table.items → IsLanesCause (bounds_of m) (Opened channel ∷ inputs) ⊥ (TooManyChannels m.lane opened live)
 opened_shows inputs channel opened live m s full is_opened is_live =
     let now = channels_after inputs no_channels in
@@ -32,8 +32,8 @@ opened_shows inputs channel opened live m s full is_opened is_live =
     ap (λ (n : ℕ). TooManyChannels m.lane n (length now.live)) (sym s.channels.opened ∙ sym is_opened) ∙ ap (λ (n : ℕ). TooManyChannels m.lane opened n) (count ∙ sym is_live) in
     inl (first-some m.lane m.channels.shift (Opened channel) inputs (TooManyChannels m.lane opened live) s.none (too_many-some m.lane now many ∙ ap (λ (c : Cause). Some c) same))
 
-pub opened_goes : (inputs : List LaneInput) (channel : ℕ) (m now : Mover) → Stands inputs m → channel ≡ m.channels.opened → Opens channel m.channels now.channels
-    → now.lane ≡ m.lane → now.taken ≡ m.taken → now.patience.quiets ≡ 0 → Stands (Opened channel ∷ inputs) now
+pub opened_goes : (inputs : List LaneInput) (channel : ℕ) (m now : Mover) → StandsBehind inputs m → channel ≡ m.channels.opened → PutsIn channel m.channels now.channels
+    → now.lane ≡ m.lane → now.taken ≡ m.taken → now.patience.quiets ≡ 0 → StandsBehind (Opened channel ∷ inputs) now
 opened_goes inputs channel m now s next o lane taken quiets =
     let count = live_count inputs m s in
     let few = o.few in
@@ -52,10 +52,10 @@ opened_goes inputs channel m now s next o lane taken quiets =
 -- ---- a channel ends
 
 -- its reader stands behind its stream
-reads_closed : (inputs : List LaneInput) (channel : ℕ) (reader : Reader) (m : Mover) (now : Channels) → Stands inputs m → Closes channel reader m.channels now → ReadsStream m.channels.shift (stream channel inputs) reader
+reads_closed : (inputs : List LaneInput) (channel : ℕ) (reader : Reader) (m : Mover) (now : Channels) → StandsBehind inputs m → TakesOut channel reader m.channels now → ReadsStream m.channels.shift (stream channel inputs) reader
 reads_closed inputs channel reader m now s c = each-at m.channels.shift inputs m.channels.table.items c.place (record { number = channel; reader = reader }) s.channels.each c.at
 
-pub closed_shows : (inputs : List LaneInput) (channel taken : ℕ) (reader : Reader) (m : Mover) (now : Channels) → Stands inputs m → Closes channel reader m.channels now → taken ≡ reader.taken → 0 < taken → ¬ IsDone reader
+pub closed_shows : (inputs : List LaneInput) (channel taken : ℕ) (reader : Reader) (m : Mover) (now : Channels) → StandsBehind inputs m → TakesOut channel reader m.channels now → taken ≡ reader.taken → 0 < taken → ¬ IsDone reader
     → IsLanesCause (bounds_of m) (Ended channel ∷ inputs) ⊥ (Lost m.lane channel taken)
 closed_shows inputs channel taken reader m now s c is some undone =
     let r = reads_closed inputs channel reader m now s c in
@@ -68,8 +68,8 @@ closed_shows inputs channel taken reader m now s c is some undone =
     none_of zero no_more = refl
     none_of (suc n) no_more = absurd (no_more (omega arith))
 
-pub closed_goes : (inputs : List LaneInput) (channel : ℕ) (reader : Reader) (m now : Mover) → Stands inputs m → Closes channel reader m.channels now.channels → (reader.taken ≡ 0) ⊎ IsDone reader
-    → now.lane ≡ m.lane → now.taken ≡ m.taken → now.patience.quiets ≡ 0 → Stands (Ended channel ∷ inputs) now
+pub closed_goes : (inputs : List LaneInput) (channel : ℕ) (reader : Reader) (m now : Mover) → StandsBehind inputs m → TakesOut channel reader m.channels now.channels → (reader.taken ≡ 0) ⊎ IsDone reader
+    → now.lane ≡ m.lane → now.taken ≡ m.taken → now.patience.quiets ≡ 0 → StandsBehind (Ended channel ∷ inputs) now
 closed_goes inputs channel reader m now s c ends lane taken quiets =
     let r = reads_closed inputs channel reader m now.channels s c in
     record {
@@ -99,7 +99,7 @@ same_bounds m lane shift idle is_lane is_shift is_idle =
 
 -- ---- nothing came
 
-pub silent_goes : (inputs : List LaneInput) (m now : Mover) → Stands inputs m → now.channels ≡ m.channels → now.lane ≡ m.lane → now.taken ≡ m.taken → now.patience.quiets ≤ m.patience.quiets + 1 → Stands (Silence ∷ inputs) now
+pub silent_goes : (inputs : List LaneInput) (m now : Mover) → StandsBehind inputs m → now.channels ≡ m.channels → now.lane ≡ m.lane → now.taken ≡ m.taken → now.patience.quiets ≤ m.patience.quiets + 1 → StandsBehind (Silence ∷ inputs) now
 silent_goes inputs m now s channels lane taken quiets =
     let q = s.quiet in
     record {
@@ -112,7 +112,7 @@ silent_goes inputs m now s channels lane taken quiets =
           (first-none m.lane m.channels.shift Silence inputs s.none refl));
     }
 
-pub silent_shows : (inputs : List LaneInput) (turns quiets idle : ℕ) (m : Mover) → Stands inputs m → idle ≡ m.patience.idle → idle ≤ quiets → quiets ≤ m.patience.quiets + 1 → IsLanesCause (bounds_of m) (Silence ∷ inputs) ⊥ (Idle m.lane turns)
+pub silent_shows : (inputs : List LaneInput) (turns quiets idle : ℕ) (m : Mover) → StandsBehind inputs m → idle ≡ m.patience.idle → idle ≤ quiets → quiets ≤ m.patience.quiets + 1 → IsLanesCause (bounds_of m) (Silence ∷ inputs) ⊥ (Idle m.lane turns)
 silent_shows inputs turns quiets idle m s is long quiet =
     let q = s.quiet in
     inr (first-none m.lane m.channels.shift Silence inputs s.none refl, inl (turns, refl, omega (arith, is, long, quiet, q)))

@@ -32,9 +32,9 @@ pub record RunsWhole {L : Type 0} (state : L → LaneState) (s : Sent) (rest : L
 
 -- a STOR whose label has a source, over a drive that tells its contents: whole lanes lead to Ok, but for the
 -- drive's answers and want of memory
-abbrev pub Completes : {L : Type 0} → (L → LaneState) → (List ℕ → Option Sent) → Limits → Start → List L
-    → List L → Result SettledFile Cause → Type 0
-Completes state sent limits start lanes back end =
+abbrev pub WholeLanesEndWell : {L : Type 0} → (L → LaneState) → (List ℕ → Option Sent) → Limits → Start
+    → List L → List L → Result SettledFile Cause → Type 0
+WholeLanesEndWell state sent limits start lanes back end =
     (s : Sent) (rest : List Range) → sent start.label ≡ Some s → left_out start.how ≡ Some rest
     → IsSome start.read → limits.shift ≡ 0 → 1 ≤ limits.idle → RunsWhole state s rest lanes back
     → IfErr end IsExcused

@@ -1,8 +1,9 @@
 pub mod Booking
 pub mod Causes
+pub mod Complete
 pub mod Honest
 pub mod Moved
 pub mod Table
 pub mod Transfer
 pub mod Turns
-pub mod Complete
+pub mod Words

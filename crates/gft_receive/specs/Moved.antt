@@ -42,8 +42,8 @@ pub record HasFailedFor (bounds : Bounds) (inputs : List LaneInput) (rest : List
 
 -- how a mover ends that booked with its pass all but the rest of what the lane brought: it is done; or the
 -- transfer ended without it; or it failed for a cause
-abbrev pub EndsAs : Bounds → List LaneInput → List Arrival → Type 0 → Type 0 → Numbers → Numbers → Type 0
-EndsAs bounds inputs rest rose done had after =
+abbrev pub MoverEnds : Bounds → List LaneInput → List Arrival → Type 0 → Type 0 → Numbers → Numbers → Type 0
+MoverEnds bounds inputs rest rose done had after =
     IsDoneWith bounds inputs rest done had after
     ⊎ (after ≡ as_stopped had)
     ⊎ HasFailedFor bounds inputs rest rose had after
@@ -59,5 +59,5 @@ pub record IsMoved (bounds : Bounds) (old new : LaneState) (before after : Numbe
   pub booked : List Arrival
   pub rest : List Arrival
   pub front : lane_arrivals bounds.shift inputs ≡ booked ++ rest
-  pub ends : EndsAs bounds inputs rest (Rose old.faults new.faults) (GaveAll new)
+  pub ends : MoverEnds bounds inputs rest (Rose old.faults new.faults) (GaveAll new)
       (numbers_after booked before) after

@@ -8,9 +8,9 @@ use Rattle.gft_outside.specs.Words.{HasNoBad, LaneInput, channels_after, is_live
 use Rattle.gft_receive.specs.declared.channels.LiveChannel.{LiveChannel}
 use Rattle.gft_receive.specs.declared.channels.Channels.{Channels}
 
-abbrev pub numbers_of : List LiveChannel → List ℕ
-numbers_of [] = []
-numbers_of (live ∷ table) = live.number ∷ numbers_of table
+abbrev pub live_numbers : List LiveChannel → List ℕ
+live_numbers [] = []
+live_numbers (live ∷ table) = live.number ∷ live_numbers table
 
 -- each number stands once, and is below one
 abbrev pub AreApart : ℕ → List ℕ → Type 0
@@ -34,9 +34,9 @@ EachReads shift inputs (live ∷ table) =
 -- the table has the live channels, each behind its stream
 pub record HoldsChannels (inputs : List LaneInput) (channels : Channels) : Type 0 where
   pub limit : channels.shift ≤ LIMIT
-  pub live : numbers_of channels.table.items ≡ (channels_after inputs no_channels).live
+  pub live : live_numbers channels.table.items ≡ (channels_after inputs no_channels).live
   pub opened : channels.opened ≡ (channels_after inputs no_channels).opened
-  pub apart : AreApart channels.opened (numbers_of channels.table.items)
+  pub apart : AreApart channels.opened (live_numbers channels.table.items)
   pub each : EachReads channels.shift inputs channels.table.items
   pub unopened : (channel : ℕ) → channels.opened ≤ channel → stream channel inputs ≡ []
 
@@ -48,7 +48,7 @@ pub record IsAtPlace (table : List LiveChannel) (channel place : ℕ) : Type 0 w
   pub inside : place < length table
 
 -- a channel is opened, before its first byte
-pub record Opens (channel : ℕ) (old new : Channels) : Type 0 where
+pub record PutsIn (channel : ℕ) (old new : Channels) : Type 0 where
   pub reader : Reader
   pub few : length old.table.items < MAX_LIVE
   pub below : old.opened < MAX_OPENED
@@ -60,7 +60,7 @@ pub record Opens (channel : ℕ) (old new : Channels) : Type 0 where
   pub to_come : (stream : List ℕ) → to_come reader stream ≡ arrivals old.shift stream
 
 -- a live channel ends
-pub record Closes (channel : ℕ) (reader : Reader) (old new : Channels) : Type 0 where
+pub record TakesOut (channel : ℕ) (reader : Reader) (old new : Channels) : Type 0 where
   pub place : ℕ
   pub at : slice_get old.table.items place ≡ Some (record { number = channel; reader = reader })
   pub inside : place < length old.table.items

@@ -22,7 +22,7 @@ abbrev pub bounds_at : Limits → ℕ → Bounds
 bounds_at limits lane = record { lane = lane; shift = limits.shift; idle = limits.idle }
 
 -- a lane and its pass, before their mover runs
-pub record IsReady {L : Type 0} (state : L → LaneState) (sent : List ℕ → Option Sent) (start : Start)
+pub record IsLaneReady {L : Type 0} (state : L → LaneState) (sent : List ℕ → Option Sent) (start : Start)
     (limits : Limits) (work : LaneWork L) : Type 0 where
   pub unopened : (state work.lane).channels ≡ no_channels
   pub pass : IsLaneOf start work.pass

@@ -31,7 +31,7 @@ abbrev pub bounds_of : Mover → Bounds
 bounds_of m = record { lane = m.lane; shift = m.channels.shift; idle = m.patience.idle }
 
 -- the mover took these inputs, and none of them showed a cause
-pub record Stands (inputs : List LaneInput) (m : Mover) : Type 0 where
+pub record StandsBehind (inputs : List LaneInput) (m : Mover) : Type 0 where
   pub channels : HoldsChannels inputs m.channels
   pub taken : m.taken ≡ byte_count inputs
   pub short : byte_count inputs < MAX_BYTES
@@ -66,7 +66,7 @@ pub record IsUnfed (old : Reader) (bytes : List ℕ) (before after : Lane) (why 
 abbrev pub TurnEnds : {A : Type 0} → Bounds → List LaneInput → List Arrival → Type 0 → Type 0 → Mover
     → Result A Halt → Numbers → Numbers → Type 0
 TurnEnds bounds all rest rose done now (Ok _) had after =
-    (rest ≡ []) × (after ≡ had) × Stands all now × (bounds_of now ≡ bounds)
+    (rest ≡ []) × (after ≡ had) × StandsBehind all now × (bounds_of now ≡ bounds)
 TurnEnds bounds all rest rose done now (Err Done) had after =
     (rest ≡ []) × (after ≡ had) × done × (first_cause bounds.lane bounds.shift all ≡ None)
 TurnEnds bounds all rest rose done now (Err Stopped) had after = Learns (IsBooksCause rest) had after
@@ -76,7 +76,7 @@ TurnEnds bounds all rest rose done now (Err (Failed cause)) had after =
 -- a turn that takes one input and books nothing
 abbrev pub TakesInput : {A : Type 0} → LaneInput → Mover → Mover → Result A Halt → Type 0
 TakesInput input old new result =
-    (inputs : List LaneInput) → Stands inputs old → (n : Numbers)
+    (inputs : List LaneInput) → StandsBehind inputs old → (n : Numbers)
     → TurnEnds (bounds_of old) (input ∷ inputs) [] ⊥ ⊥ new result n n
 
 -- a turn took these inputs more
@@ -99,7 +99,7 @@ IsSized Eod = Unit {0}
 -- what these bytes of a channel bring next is honest
 abbrev pub FeedsHonest : (List ℕ → Option Sent) → Start → Mover → Lane → ℕ → List ℕ → Type 0
 FeedsHonest sent start m pass channel bytes =
-    (inputs : List LaneInput) × Stands inputs m
+    (inputs : List LaneInput) × StandsBehind inputs m
     × MayBring sent start pass.lane pass.count (gained m.channels.shift (stream channel inputs) bytes)
 
 -- if the transfer's label has a source, the lane tells what it has left, and all that it brings is honest
@@ -111,7 +111,7 @@ TellsHonest sent start shift lane inputs state =
 -- a mover stands behind its lane, and all that it took is booked
 pub record AwaitsBy (sent : List ℕ → Option Sent) (start : Start) (state : LaneState) (m : Mover)
     (pass : Lane) (inputs : List LaneInput) : Type 0 where
-  pub stands : Stands inputs m
+  pub stands : StandsBehind inputs m
   pub channels : state.channels ≡ channels_after inputs no_channels
   pub booked : pass.count ≡ numbers_after (lane_arrivals m.channels.shift inputs) nothing
   pub honest : TellsHonest sent start m.channels.shift pass.lane inputs state

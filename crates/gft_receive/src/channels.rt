@@ -2,7 +2,7 @@ ghost use Rattle.std.specs.Prelude.{◌≡◌, ◌⊎◌, ◌+◌, ◌<◌, ◌�
 ghost use Rattle.std.specs.Prelude.{OnOk, OnErr, IfNone, IfSome};
 ghost use Rattle.gft_base.specs.declared.TheConstants.{LIMIT};
 ghost use Rattle.gft_outside.specs.Words.{is_live};
-ghost use Rattle.gft_receive.specs.Table.{Closes, IsAtPlace, Opens, numbers_of};
+ghost use Rattle.gft_receive.specs.Table.{TakesOut, IsAtPlace, PutsIn, live_numbers};
 
 use arrayvec::ArrayVec;
 use gft_eblock::Channel;
@@ -51,7 +51,7 @@ impl Channels {
     /// A channel is opened, unless as many are live, or were opened, as a lane may have.
     pub(crate) fn open(&mut self, channel: u32) -> Result<(), Full>
         requires shift { self.old.shift ≤ LIMIT }
-        ensures opens { OnOk result (Opens channel self.old self.new) }
+        ensures opens { OnOk result (PutsIn channel self.old self.new) }
         ensures full { OnErr result ((MAX_LIVE ≤ length self.old.table.items)
             ⊎ (MAX_OPENED ≤ self.old.opened)) }
         ensures same { OnErr result (self.new ≡ self.old) }
@@ -69,8 +69,8 @@ impl Channels {
 
     /// A live channel ends, and comes back.
     pub(crate) fn close(&mut self, channel: u32) -> Channel
-        requires live { is_live channel (numbers_of self.old.table.items) ≡ true }
-        ensures closes { Closes channel result self.old self.new }
+        requires live { is_live channel (live_numbers self.old.table.items) ≡ true }
+        ensures closes { TakesOut channel result self.old self.new }
     {
         let Some(place) = place_of(&self.table, channel) else {
             unreachable!()
@@ -83,7 +83,7 @@ impl Channels {
 /// Where the channel with this number stands.
 pub(crate) fn place_of(table: &[LiveChannel], channel: u32) -> Option<usize>
     ensures some { IfSome result (λ place. IsAtPlace table.now channel place) }
-    ensures none { IfNone result (is_live channel (numbers_of table.now) ≡ false) }
+    ensures none { IfNone result (is_live channel (live_numbers table.now) ≡ false) }
 {
     for (i, live) in table.iter().enumerate() {
         if live.number == channel {

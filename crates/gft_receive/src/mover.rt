@@ -9,8 +9,8 @@ ghost use Rattle.gft_pass.specs.Words.{nothing};
 ghost use Rattle.gft_book.specs.Words.{IsLaneOf, SamePass};
 ghost use Rattle.gft_receive.specs.Honest.{IsHonestLeft};
 ghost use Rattle.gft_receive.specs.Moved.{IsMoved};
-ghost use Rattle.gft_receive.specs.Table.{numbers_of};
-ghost use Rattle.gft_receive.specs.Turns.{Awaits, FeedsHonest, Stands, TakesInput, Turned, TurnedBy};
+ghost use Rattle.gft_receive.specs.Table.{live_numbers};
+ghost use Rattle.gft_receive.specs.Turns.{Awaits, FeedsHonest, StandsBehind, TakesInput, Turned, TurnedBy};
 ghost use Rattle.gft_receive.specs.Turns.{bounds_of};
 
 use crate::channels::{Channels, Full, place_of};
@@ -42,7 +42,7 @@ pub(crate) struct Mover {
 impl Mover {
     fn new(lane: u16, limits: &Limits) -> Mover
         requires shift { limits.now.shift ≤ LIMIT }
-        ensures stands { Stands [] result }
+        ensures stands { StandsBehind [] result }
         ensures bounds { bounds_of result
             ≡ record { lane = lane; shift = limits.now.shift; idle = limits.now.idle } }
     {
@@ -75,7 +75,7 @@ impl Mover {
 
     /// A channel ended. One that gave no byte counts as nothing.
     fn close(&mut self, channel: u32) -> Result<(), Halt>
-        requires live { is_live channel (numbers_of self.old.channels.table.items) ≡ true }
+        requires live { is_live channel (live_numbers self.old.channels.table.items) ≡ true }
         ensures { TakesInput (Ended channel) self.old self.new result }
     {
         let reader = self.channels.close(channel);
@@ -116,10 +116,10 @@ impl Mover {
         requires pass { IsLaneOf N.start pass.old }
         requires some { 0 < length bytes.now }
         requires room { self.old.taken + length bytes.now ≤ MAX_BYTES }
-        requires live { is_live channel (numbers_of self.old.channels.table.items) ≡ true }
+        requires live { is_live channel (live_numbers self.old.channels.table.items) ≡ true }
         requires honest { FeedsHonest (sent_by O.source O.orders O.fit) N.start self.old pass.old channel
             bytes.now }
-        ensures turned { (inputs : List LaneInput) → Stands inputs self.old
+        ensures turned { (inputs : List LaneInput) → StandsBehind inputs self.old
             → Turned (bounds_of self.old) inputs (reverse (map (λ value. Came channel value) bytes.now)) ⊥ ⊥
             self.new pass.old pass.new result }
     {
@@ -160,7 +160,7 @@ impl Mover {
         requires awaits { Awaits (sent_by O.source O.orders O.fit) N.start (L.state lane.old) self.old
             pass.old }
         ensures buffer { length buf.new ≡ length buf.old }
-        ensures turned { (inputs : List LaneInput) → Stands inputs self.old
+        ensures turned { (inputs : List LaneInput) → StandsBehind inputs self.old
             → (L.state lane.old).channels ≡ channels_after inputs no_channels
             → TurnedBy (bounds_of self.old) inputs (L.state lane.old) (L.state lane.new) self.new pass.old
             pass.new result }

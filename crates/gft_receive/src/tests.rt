@@ -49,6 +49,11 @@ const EOF_2: Item<'static> = Head(0, 64, 0, 2);
 
 const EOD: Item<'static> = Head(0, 8, 0, 0);
 
+/// An EOD without its last byte.
+const CUT_EOD: &[u8] = b"\x08\0\0\0\0\0\0\0\0\0\0\0\0\0\0\0";
+
+const EOD_AND_MORE: &[u8] = b"\x08\0\0\0\0\0\0\0\0\0\0\0\0\0\0\0\0more";
+
 const ONE_LANE: [Item<'static>; 6] = [Open(0), HELLO, WORLD, EOF_1, EOD, End(0)];
 
 fn octets(alloc: Global, channel: u32, head: &[u8], data: &[u8]) -> Result<LaneItem, Fail> {
@@ -152,7 +157,11 @@ fn transfer<L: Lane + Drop, R: Threads + Wait + Sync>(
         idle,
         shift: 0,
     };
-    let received = receive(
+    let Received {
+        outcome,
+        book,
+        lanes: _,
+    } = receive(
         rt,
         alloc,
         lanes,
@@ -164,86 +173,109 @@ fn transfer<L: Lane + Drop, R: Threads + Wait + Sync>(
         &mut NoClock,
         &limits,
     );
-    let end = match received.outcome.end {
-        Ok(file) => Ok((file.len(), file.is_whole())),
-        Err(cause) => Err(cause),
-    };
-    Ok((end, received.book))
+    match outcome.end {
+        Ok(file) => Ok((Ok((file.len(), file.is_whole())), book)),
+        Err(cause) => Ok((Err(cause), book)),
+    }
 }
 
-/// What comes on each lane, and how the transfer ends.
-type Row<'a> = (&'a [&'a [Item<'a>]], Ending);
+/// What a transfer of these lanes ends with; the file has the front of `helloworld`.
+fn ending(
+    rt: &(impl Abort + Threads + Wait + Sync),
+    alloc: Global,
+    lists: &[&[Item]],
+) -> Result<Ending, Fail> {
+    let book = new_book(alloc, &[])?;
+    let (end, book) = transfer(rt, alloc, book, How::Fresh, lanes(alloc, lists)?, 3)?;
+    let drive = book.into_keep().into_drive();
+    assert!(rt; b"helloworld".starts_with(drive.bytes()));
+    Ok(end)
+}
 
 #[test]
-fn what_lanes_bring_is_stored(rt: HostRuntime) -> Result<(), Fail> {
-    let alloc = rt.alloc();
+fn two_lanes_make_a_file(rt: HostRuntime) -> Result<(), Fail> {
+    let first = [Open(0), WORLD, EOF_2, EOD, End(0)];
+    let second = [Open(0), HELLO, EOD, End(0)];
+    let end = ending(&rt, rt.alloc(), &[&first, &second])?;
+    assert_eq!(rt; end, Ok((10, true)));
+    Ok(())
+}
+
+#[test]
+fn a_silent_lane_is_idle(rt: HostRuntime) -> Result<(), Fail> {
+    let end = ending(&rt, rt.alloc(), &[&[Open(0), HELLO, Quiet, Quiet, Quiet]])?;
+    assert_eq!(rt; end, Err(Cause::Idle { lane: 0, turns: 1 }));
+    Ok(())
+}
+
+#[test]
+fn a_channel_without_a_byte_counts_as_nothing(rt: HostRuntime) -> Result<(), Fail> {
+    let hello = Block(2, 0, b"hello");
+    let items = [
+        Open(0),
+        End(0),
+        Open(1),
+        End(1),
+        Open(2),
+        hello,
+        Head(2, 76, 0, 1),
+    ];
+    let end = ending(&rt, rt.alloc(), &[&items])?;
+    assert_eq!(rt; end, Ok((5, true)));
+    Ok(())
+}
+
+#[test]
+fn a_channel_that_ends_before_its_eod_is_lost(rt: HostRuntime) -> Result<(), Fail> {
+    let end = ending(
+        &rt,
+        rt.alloc(),
+        &[&[Open(0), HELLO, Bytes(0, CUT_EOD), End(0)]],
+    )?;
+    let lost = Cause::Lost {
+        lane: 0,
+        channel: 0,
+        taken: 38,
+    };
+    assert_eq!(rt; end, Err(lost));
+    Ok(())
+}
+
+#[test]
+fn a_refused_header_is_told_with_its_channel(rt: HostRuntime) -> Result<(), Fail> {
+    let items = [
+        Open(0),
+        Open(1),
+        Open(2),
+        HELLO,
+        Head(1, 16, 0, 0),
+        EOF_1,
+        EOD,
+    ];
+    let end = ending(&rt, rt.alloc(), &[&items])?;
     let bad = BadBlock {
         place: 0,
         flags: 16,
         count: 0,
         offset: 0,
     };
-    let rest: [u8; 21] = *b"\x08\0\0\0\0\0\0\0\0\0\0\0\0\0\0\0\0more";
-    let rows: [Row; 6] = [
-        (
-            &[
-                &[Open(0), WORLD, EOF_2, EOD, End(0)],
-                &[Open(0), HELLO, EOD, End(0)],
-            ],
-            Ok((10, true)),
-        ),
-        (
-            &[&[Open(0), HELLO, Quiet, Quiet, Quiet]],
-            Err(Cause::Idle { lane: 0, turns: 1 }),
-        ),
-        (
-            &[&[
-                Open(0),
-                End(0),
-                Open(1),
-                End(1),
-                Open(2),
-                Block(2, 0, b"hello"),
-                Head(2, 76, 0, 1),
-            ]],
-            Ok((5, true)),
-        ),
-        (
-            &[&[Open(0), HELLO, Bytes(0, &rest[..16]), End(0)]],
-            Err(Cause::Lost {
-                lane: 0,
-                channel: 0,
-                taken: 38,
-            }),
-        ),
-        (
-            &[&[
-                Open(0),
-                Open(1),
-                Open(2),
-                HELLO,
-                Head(1, 16, 0, 0),
-                EOF_1,
-                EOD,
-            ]],
-            Err(Cause::BadBlock {
-                lane: 0,
-                channel: 1,
-                bad,
-            }),
-        ),
-        (
-            &[&[Open(0), HELLO, EOF_1, Bytes(0, &rest), End(0)]],
-            Ok((5, true)),
-        ),
-    ];
-    for (i, (lists, want)) in rows.into_iter().enumerate() {
-        let book = new_book(alloc, &[])?;
-        let (end, book) = transfer(&rt, alloc, book, How::Fresh, lanes(alloc, lists)?, 3)?;
-        assert_eq!(rt; end, want, "row {i}");
-        let drive = book.into_keep().into_drive();
-        assert!(rt; b"helloworld".starts_with(drive.bytes()), "row {i}");
-    }
+    let refused = Cause::BadBlock {
+        lane: 0,
+        channel: 1,
+        bad,
+    };
+    assert_eq!(rt; end, Err(refused));
+    Ok(())
+}
+
+#[test]
+fn bytes_behind_an_eod_are_dropped(rt: HostRuntime) -> Result<(), Fail> {
+    let end = ending(
+        &rt,
+        rt.alloc(),
+        &[&[Open(0), HELLO, EOF_1, Bytes(0, EOD_AND_MORE), End(0)]],
+    )?;
+    assert_eq!(rt; end, Ok((5, true)));
     Ok(())
 }
 
@@ -251,11 +283,14 @@ fn what_lanes_bring_is_stored(rt: HostRuntime) -> Result<(), Fail> {
 #[test]
 fn lanes_of_two_totals_are_refused(rt: HostRuntime) -> Result<(), Fail> {
     let alloc = rt.alloc();
-    let lists: [&[Item]; 2] = [&[Open(0), Head(0, 64, 0, 2)], &[Open(0), Head(0, 64, 0, 3)]];
-    let book = new_book(alloc, &[])?;
-    let (end, _book) = transfer(&rt, alloc, book, How::Fresh, lanes(alloc, &lists)?, 3)?;
-    let found = [(2, 3), (3, 2)].map(|(kept, new)| Err(Cause::TwoTotals { kept, new }));
-    assert!(rt; found.contains(&end));
+    let end = ending(
+        &rt,
+        alloc,
+        &[&[Open(0), EOF_2], &[Open(0), Head(0, 64, 0, 3)]],
+    )?;
+    let first = Cause::TwoTotals { kept: 2, new: 3 };
+    let second = Cause::TwoTotals { kept: 3, new: 2 };
+    assert!(rt; end == Err(first) || end == Err(second));
     Ok(())
 }
 
@@ -266,9 +301,7 @@ fn a_lane_has_64_live_channels(rt: HostRuntime) -> Result<(), Fail> {
     for channel in 0..65 {
         items.push(Open(channel))?;
     }
-    let lists = [items.as_slice()];
-    let book = new_book(alloc, &[])?;
-    let (end, _book) = transfer(&rt, alloc, book, How::Fresh, lanes(alloc, &lists)?, 3)?;
+    let end = ending(&rt, alloc, &[items.as_slice()])?;
     let full = Cause::TooManyChannels {
         lane: 0,
         opened: 64,
@@ -367,10 +400,15 @@ fn lanes_are_received_side_by_side(rt: HostRuntime) -> Result<(), Fail> {
 /// The call that was made at this place, as the one of its kind and part.
 fn nth_call(drive: &MemoryDrive, place: usize) -> Option<FailAt> {
     let DriveCall { call, part, .. } = drive.call(place)?;
-    let alike = |&i: &usize| drive
-        .call(i)
-        .is_some_and(|made| made.call == call && made.part == part);
-    let number = (0..=place).filter(alike).count() as u32;
+    let mut number = 0u32;
+    for i in 0..=place {
+        if drive
+            .call(i)
+            .is_some_and(|made| made.call == call && made.part == part)
+        {
+            number = number.saturating_add(1);
+        }
+    }
     Some(FailAt { call, part, number })
 }
 
@@ -390,25 +428,49 @@ fn restart(alloc: Global, drive: MemoryDrive) -> Result<(How, MemoryBook), Fail>
     Ok((How::Resume(kept), book))
 }
 
+/// A transfer of one lane over a Book.
+fn store(
+    rt: &(impl Threads + Wait + Sync),
+    alloc: Global,
+    book: MemoryBook,
+    how: How,
+) -> Result<(Ending, MemoryBook), Fail>
+    requires { NamesSome how }
+    ensures { IfOk result (λ ended. ended.1.stage ≡ Rest) }
+{
+    let lanes = lanes(alloc, &[&ONE_LANE])?;
+    transfer(rt, alloc, book, how, lanes, 3)
+}
+
+/// A transfer of which one call of the drive fails, and then one from what was kept.
+fn fail_once(
+    rt: &(impl Abort + Threads + Wait + Sync),
+    alloc: Global,
+    failing: FailAt,
+) -> Result<(), Fail> {
+    let book = new_book(alloc, &[failing])?;
+    let (end, book) = store(rt, alloc, book, How::Fresh)?;
+    assert_eq!(rt; end, Err(Cause::DriveFailed), "{failing:?}");
+    let (how, book) = restart(alloc, book.into_keep().into_drive())?;
+    let (end, book) = store(rt, alloc, book, how)?;
+    assert_eq!(rt; end, Ok((10, true)));
+    let drive = book.into_keep().into_drive();
+    assert_eq!(rt; drive.bytes(), b"helloworld".as_slice());
+    Ok(())
+}
+
 // Attaching takes 262 calls, a begin afresh 263, and the rest 18.
 #[test]
 fn each_call_of_the_drive_fails_once(rt: HostRuntime) -> Result<(), Fail> {
     let alloc = rt.alloc();
     let book = new_book(alloc, &[])?;
-    let (end, book) = transfer(&rt, alloc, book, How::Fresh, lanes(alloc, &[&ONE_LANE])?, 3)?;
+    let (end, book) = store(&rt, alloc, book, How::Fresh)?;
     assert_eq!(rt; end, Ok((10, true)));
     let drive = book.into_keep().into_drive();
     assert_eq!(rt; drive.count(), 262 + 263 + 18);
     for place in 525..543 {
         let failing = nth_call(&drive, place).expect(&rt, "a call");
-        let book = new_book(alloc, &[failing])?;
-        let (end, book) = transfer(&rt, alloc, book, How::Fresh, lanes(alloc, &[&ONE_LANE])?, 3)?;
-        assert_eq!(rt; end, Err(Cause::DriveFailed), "{failing:?}");
-        let (how, book) = restart(alloc, book.into_keep().into_drive())?;
-        let (end, book) = transfer(&rt, alloc, book, how, lanes(alloc, &[&ONE_LANE])?, 3)?;
-        assert_eq!(rt; end, Ok((10, true)), "{failing:?}");
-        let drive = book.into_keep().into_drive();
-        assert_eq!(rt; drive.bytes(), b"helloworld".as_slice(), "{failing:?}");
+        fail_once(&rt, alloc, failing)?;
     }
     Ok(())
 }
@@ -453,10 +515,12 @@ fn interleave(alloc: Global, streams: &[Vec<u8>], items: &mut Vec<LaneItem>) -> 
         let Some(stream) = streams.get(channel) else {
             continue;
         };
-        let from = places[channel].min(stream.len());
+        let from = places[channel];
         let end = from.saturating_add(CUTS[step % 7]).min(stream.len());
         places[channel] = end;
-        items.push(octets(alloc, channel as u32, &stream.as_slice()[from..end], b"")?)?;
+        if let Some(piece) = stream.as_slice().get(from..end) {
+            items.push(octets(alloc, channel as u32, piece, b"")?)?;
+        }
     }
     Ok(())
 }
@@ -474,6 +538,15 @@ fn wide_lane(alloc: Global, lane: u8) -> Result<MemoryLane, Fail>
     Ok(MemoryLane::new(items, Vec::new(alloc)))
 }
 
+fn is_generated(bytes: &[u8]) -> bool {
+    for (offset, &byte) in bytes.iter().enumerate() {
+        if byte != byte_at(offset as u64) {
+            return false;
+        }
+    }
+    true
+}
+
 #[test]
 fn sixteen_lanes_bring_a_mebibyte(rt: HostRuntime) -> Result<(), Fail> {
     let alloc = rt.alloc();
@@ -486,7 +559,6 @@ fn sixteen_lanes_bring_a_mebibyte(rt: HostRuntime) -> Result<(), Fail> {
     let (end, book) = transfer(&rt, alloc, book, How::Fresh, lanes, 3)?;
     assert_eq!(rt; end, Ok((1_048_576, true)));
     let drive = book.into_keep().into_drive();
-    let mut bytes = drive.bytes().iter().enumerate();
-    assert!(rt; bytes.all(|(offset, &byte)| byte == byte_at(offset as u64)));
+    assert!(rt; is_generated(drive.bytes()));
     Ok(())
 }

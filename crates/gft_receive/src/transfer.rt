@@ -8,8 +8,8 @@ ghost use Rattle.gft_pass.specs.Words.{nothing};
 ghost use Rattle.gft_book.specs.declared.transfer.Stage.TheVariants.{Rest};
 ghost use Rattle.gft_book.specs.Words.{EqualsSource, HasAllPasses, IsLive, IsRunning, KeptSince};
 ghost use Rattle.gft_book.specs.Words.{book_of, start_now};
-ghost use Rattle.gft_receive.specs.Complete.{Completes};
-ghost use Rattle.gft_receive.specs.Transfer.{AreFresh, AreReady, HasRun, IsReady, IsWorked, Receives};
+ghost use Rattle.gft_receive.specs.Complete.{WholeLanesEndWell};
+ghost use Rattle.gft_receive.specs.Transfer.{AreFresh, AreReady, HasRun, IsLaneReady, IsWorked, Receives};
 
 use crate::limits::Limits;
 use crate::mover::receive_lane;
@@ -44,7 +44,8 @@ fn run_movers<
     R: Threads + Wait + Sync,
 >(rt: &R, book: Book<D, O>, works: &mut [LaneWork<L>], limits: &Limits) -> Book<D, O>
     requires live { IsLive N.start (book_of D.state book) }
-    requires works { All (IsReady L.state (sent_by O.source O.orders O.fit) N.start limits.now) works.old }
+    requires works { All (IsLaneReady L.state (sent_by O.source O.orders O.fit) N.start limits.now)
+        works.old }
     ensures live { IsLive N.start (book_of D.state result) }
     ensures worked { (i : ℕ) (d : _) → i < length works.old
         → IsWorked L.state limits.now (slice_index_or works.old i d) (slice_index_or works.new i d) }
@@ -56,7 +57,7 @@ fn run_movers<
         works,
         MAX_MOVERS,
         &|_, work: &mut LaneWork<L>|
-            requires { IsReady L.state (sent_by O.source O.orders O.fit) N.start limits.now work.old }
+            requires { IsLaneReady L.state (sent_by O.source O.orders O.fit) N.start limits.now work.old }
             ensures { IsWorked L.state limits.entry.now work.old work.new }
         { receive_lane(rt, &mut work.lane, lock, &mut work.pass, limits) },
     );
@@ -129,7 +130,7 @@ fn run<L: Lane + Drop, D: Drive + Drop, O: Origin + Send, R: Threads + Wait + Sy
     ensures honest { OnOk result.outcome.end (EqualsSource
         (sent_by O.source O.orders O.fit (keep_of D.state book.keep).drive.label) (book_of D.state book)
         (keep_of D.state result.book.keep)) }
-    ensures complete { Completes L.state (sent_by O.source O.orders O.fit) limits.now
+    ensures complete { WholeLanesEndWell L.state (sent_by O.source O.orders O.fit) limits.now
         (start_now (book_of D.state book)) lanes.items result.lanes.items result.outcome.end }
     ensures told { result.outcome.told ≡ 0 }
 {
@@ -224,7 +225,7 @@ pub fn receive<
     ensures honest { OnOk result.outcome.end (EqualsSource
         (sent_by O.source O.orders O.fit (keep_of D.state book.keep).drive.label) (book_of D.state book)
         (keep_of D.state result.book.keep)) }
-    ensures complete { Completes L.state (sent_by O.source O.orders O.fit) limits.now
+    ensures complete { WholeLanesEndWell L.state (sent_by O.source O.orders O.fit) limits.now
         (start_now (book_of D.state book)) lanes.items result.lanes.items result.outcome.end }
     ensures told { result.outcome.told ≡ 0 }
     ensures unasked { (control.new ≡ control.old) × (lines.new ≡ lines.old) × (out.new ≡ out.old)

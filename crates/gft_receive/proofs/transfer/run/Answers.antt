@@ -6,7 +6,7 @@ use Rattle.gft_pass.specs.declared.Numbers.{Numbers}
 use Rattle.gft_pass.specs.Words.{Lane, nothing}
 use Rattle.gft_book.specs.Words.{HasAllPasses, book_of, start_now}
 use Rattle.gft_book.proofs.Lemmas.{IsLive-running, KeptSince-keeps, passes_fit}
-use Rattle.gft_receive.specs.Transfer.{AreFresh, AreReady, IsReady, IsWorked, MovesEach}
+use Rattle.gft_receive.specs.Transfer.{AreFresh, AreReady, IsLaneReady, IsWorked, MovesEach}
 use Rattle.gft_receive.proofs.CompleteLemmas.{completes}
 use Rattle.gft_receive.proofs.ListLemmas.{at_last, refilled_by}
 use Rattle.gft_receive.proofs.RunLemmas.{all_back, all_ready, count_of, counts_back, ends_run, honest_run, lane_of, last_table, listed_run, moves_each, pass_of}
@@ -24,7 +24,7 @@ run_movers-book-requires-clause-works g c κs within =
     let all = subst (λ (l : List Lane). HasAllPasses c.args.book.stage (l ++ c.args.teller ∷ [])) c.take_lanes.ensures.passes c.requires.passes in
     let fresh = subst (λ (l : List Lane). AreFresh (l ++ c.args.teller ∷ [])) c.take_lanes.ensures.passes c.requires.fresh in
     let ready = subst (λ l. AreReady g.L.Lane.state sent (start_now book) c.args.limits.now.shift l) c.take_lanes.ensures.lanes c.requires.lanes.0 in
-    subst (λ l. All (IsReady g.L.Lane.state sent (start_now book) c.args.limits.now) l) (sym c.as_mut_slice.ensures.value)
+    subst (λ l. All (IsLaneReady g.L.Lane.state sent (start_now book) c.args.limits.now) l) (sym c.as_mut_slice.ensures.value)
     (all_ready works c.args.teller c.args.book.stage all g.L.Lane.state sent c.args.limits.now book refl fresh ready c.requires.lanes.1)
 
 pub settle-end-requires-clause-passes : goal.settle-end-requires-clause-passes
