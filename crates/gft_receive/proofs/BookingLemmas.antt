@@ -1,5 +1,5 @@
 -- Arrivals that are booked one after another.
-use Rattle.std.proofs.Common.{◌≡◌, ◌⊎◌, ℕ, suc, ◌+◌, ◌-◌, ◌^◌, List, [], ◌∷◌, ◌++◌, ◌<◌, length, min, Some, Bor, subst, refl, sym, ap, ◌∙◌, ⊎_elim, inl, inr, arith}
+use Rattle.std.proofs.Common.{◌≡◌, ℕ, suc, ◌+◌, List, [], ◌∷◌, ◌++◌, ◌<◌, length, Some, Bor, subst, refl, sym, ap, ◌∙◌, ⊎_elim, inl, inr, arith}
 use Rattle.gft_eblock.specs.declared.Event.{Event}
 use Rattle.gft_eblock.specs.declared.Event.TheVariants.{Piece}
 use Rattle.gft_eblock.specs.Words.{Arrival, At, Bad, Eod, Eof, data_at, event_arrivals}

@@ -13,7 +13,6 @@ use Rattle.gft_eblock.specs.declared.channel.State.TheVariants.{Header, Data, Eo
 use Rattle.gft_eblock.specs.Words.{Advances, Arrival, At, Bad, Eod, Eof, Fails, IsDone, IsDoneState, IsEventOf, Reader, TakesMore, data_at, eods, event_arrivals, refusal_of, to_come, wanted}
 use Rattle.gft_eblock.proofs.Lemmas.{to_come-done, to_come-nothing}
 use Rattle.gft_outside.specs.Words.{HasNoBad}
-use Rattle.gft_pass.specs.declared.Cause.{Cause}
 use Rattle.gft_pass.specs.declared.Numbers.{Numbers}
 use Rattle.gft_pass.specs.Words.{Lane}
 use Rattle.gft_book.specs.Words.{Learns, SamePass, Start}

@@ -1,5 +1,5 @@
 -- What honest senders bring, cut in two.
-use Rattle.std.proofs.Common.{◌≡◌, ℕ, zero, suc, ◌+◌, ◌-◌, ◌^◌, ◌<◌, ◌≤◌, ◌==◌, List, [], ◌∷◌, ◌++◌, length, min, Some, None, Bool, true, false, refl, sym, ap, ◌∙◌, subst, inl, inr, arith}
+use Rattle.std.proofs.Common.{◌≡◌, ℕ, zero, suc, ◌+◌, ◌^◌, ◌<◌, ◌≤◌, ◌==◌, List, [], ◌∷◌, ◌++◌, length, Some, None, Bool, true, false, refl, sym, ap, ◌∙◌, subst, inl, inr, arith}
 use Rattle.std.specs.Prelude.{Option, IfSome, slice_get, if◌then◌else◌}
 use Rattle.std.proofs.lemmas.Bool.{cases_lt, eq-eqb, eqb-true}
 use Rattle.std.proofs.lemmas.Option.{none-some, slice_get_within}
@@ -13,7 +13,7 @@ use Rattle.gft_drive.specs.Words.{Orders, Sent, sum_below, total_of}
 use Rattle.gft_core.specs.declared.event.CoreEvent.{CoreEvent}
 use Rattle.gft_core.specs.declared.event.CoreEvent.TheVariants as event
 use Rattle.gft_core.specs.Words.{IsInOrder, byte_at, lane_eods, lane_offsets}
-use Rattle.gft_outside.specs.Words.{IsHonestLane, IsTruthful, arrival_event, arrival_events}
+use Rattle.gft_outside.specs.Words.{IsTruthful, arrival_event, arrival_events}
 use Rattle.gft_pass.specs.declared.Numbers.{Numbers}
 use Rattle.gft_pass.specs.Words.{Lane, nothing}
 use Rattle.gft_book.specs.Words.{BlockIn, IsOfSource, Start, left_out, more_bytes, one_eod, with_total}

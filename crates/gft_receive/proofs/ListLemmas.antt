@@ -1,6 +1,6 @@
 -- Lists as the slices and tables of this crate need them.
 use Rattle.std.proofs.Common.{◌≡◌, ℕ, zero, suc, List, [], ◌∷◌, ◌++◌, length, map, set, take, drop, Some, refl, sym, ap, ◌∙◌, subst}
-use Rattle.std.specs.Prelude.{Option, slice_get}
+use Rattle.std.specs.Prelude.{slice_get}
 use Rattle.std.specs.List.{refill}
 use mathlib.Core.Option.{some}
 use lib.ListN.{get_elem?}

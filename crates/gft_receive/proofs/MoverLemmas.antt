@@ -1,6 +1,6 @@
 -- A mover, over all its turns.
-use Rattle.std.proofs.Common.{◌≡◌, ◌⊎◌, ℕ, zero, suc, ◌+◌, ◌<◌, ◌≤◌, List, [], ◌∷◌, ◌++◌, length, map, reverse, take, Some, None, Bool, true, false, refl, sym, ap, ◌∙◌, subst, ⊎_elim, inl, inr, arith}
-use Rattle.std.specs.Prelude.{Option, Result, Ok, Err, IfSome, if◌then◌else◌}
+use Rattle.std.proofs.Common.{◌≡◌, ℕ, zero, suc, ◌<◌, ◌≤◌, List, [], ◌∷◌, ◌++◌, length, map, reverse, take, Some, None, true, refl, sym, ap, ◌∙◌, subst, ⊎_elim, inl, inr, arith}
+use Rattle.std.specs.Prelude.{Option, Result, Ok, Err, IfSome}
 use Rattle.std.proofs.lemmas.List.{append_assoc, append-nil, reverse-append, reverse-reverse, take-append-le}
 use Rattle.gft_base.specs.Words.{Rose}
 use Rattle.gft_eblock.specs.Words.{Arrival}
@@ -8,19 +8,17 @@ use Rattle.gft_drive.specs.Words.{Sent}
 use Rattle.gft_outside.specs.Words.{AreInTurn, Came, Channels, Ended, Gives, LaneInput, LaneState, Loses, Opened, Silence, channels_after, gained, is_live, lane_arrivals, no_channels, stream}
 use Rattle.gft_outside.proofs.Lemmas.{channels_after-append, cuts, gives_more, gives_none, in_turn-older}
 use Rattle.gft_pass.specs.declared.Cause.{Cause}
-use Rattle.gft_pass.specs.declared.Cause.TheVariants.{LinkFailed}
 use Rattle.gft_pass.specs.declared.Numbers.{Numbers}
 use Rattle.gft_pass.specs.Words.{Lane, nothing}
-use Rattle.gft_book.specs.Words.{Learns, SamePass, Start, as_stopped, left_out, with_cause}
+use Rattle.gft_book.specs.Words.{Learns, SamePass, Start, as_stopped, with_cause}
 use Rattle.gft_receive.specs.declared.mover.Mover.{Mover}
 use Rattle.gft_receive.specs.declared.halt.Halt.{Halt}
 use Rattle.gft_receive.specs.declared.halt.Halt.TheVariants.{Done, Stopped, Failed}
 use Rattle.gft_receive.specs.Booking.{IsBooksCause, numbers_after}
 use Rattle.gft_receive.specs.Causes.{first_cause}
-use Rattle.gft_receive.specs.Honest.{IsHonestFor, IsHonestLeft, MayBring}
+use Rattle.gft_receive.specs.Honest.{IsHonestLeft, MayBring}
 use Rattle.gft_receive.specs.Moved.{Bounds, MoverEnds, GaveAll, IsLanesCause, IsMoved}
-use Rattle.gft_receive.specs.Table.{live_numbers}
-use Rattle.gft_receive.specs.Turns.{Awaits, AwaitsBy, FeedsHonest, HasMoved, StandsBehind, TellsHonest, TurnEnds, Turned, TurnedBy, bounds_of}
+use Rattle.gft_receive.specs.Turns.{Awaits, FeedsHonest, HasMoved, StandsBehind, TellsHonest, TurnEnds, Turned, TurnedBy, bounds_of}
 use Rattle.gft_receive.proofs.BookingLemmas.{numbers_after-append}
 use Rattle.gft_receive.proofs.HonestLemmas.{MayBring-front, MayBring-rest, honest_may, some_map}
 

@@ -1,32 +1,26 @@
 -- Bytes of one channel, behind what came before.
-use Rattle.std.proofs.Common.{◌≡◌, ◌⊎◌, ◌==◌, ℕ, zero, suc, ◌+◌, ◌-◌, ◌<◌, ◌≤◌, List, [], ◌∷◌, ◌++◌, length, map, reverse, set, take, drop, Some, None, Bool, true, false, refl, sym, ap, ◌∙◌, subst, ⊎_elim, inl, inr, arith, ne_eqb}
-use Rattle.std.specs.Prelude.{Option, Result, Ok, Err, if◌then◌else◌, slice_get, slice_index_or}
+use Rattle.std.proofs.Common.{◌≡◌, ◌⊎◌, ◌==◌, ℕ, zero, suc, ◌+◌, ◌<◌, ◌≤◌, List, [], ◌∷◌, ◌++◌, length, map, reverse, set, drop, Some, None, Bool, true, false, refl, sym, ap, ◌∙◌, subst, ⊎_elim, inl, inr, arith, ne_eqb}
+use Rattle.std.specs.Prelude.{Option, Ok, Err, if◌then◌else◌, slice_get, slice_index_or}
 use Rattle.std.specs.List.{refill}
-use Rattle.std.proofs.lemmas.Bool.{cases_lt, eq-eqb, eqb-true}
+use Rattle.std.proofs.lemmas.Bool.{cases_lt}
 use Rattle.std.proofs.lemmas.List.{append_assoc, append-nil, drop_at}
 use Rattle.std.proofs.lemmas.Option.{get_or_from_slice_get}
 use Rattle.gft_eblock.specs.declared.TheConstants.{MAX_BYTES}
 use Rattle.gft_eblock.specs.declared.BadBlock.{BadBlock}
-use Rattle.gft_eblock.specs.Words.{Arrival, At, Bad, Eod, Eof, IsDone, Reader, arrivals, eods, refusal_of, to_come}
-use Rattle.gft_outside.specs.Words.{Came, Ended, HasNoBad, LaneInput, Opened, Silence, byte_count, channels_after, gained, is_live, lane_arrivals, no_channels, stream}
+use Rattle.gft_eblock.specs.Words.{Arrival, Bad, IsDone, Reader, arrivals, eods, refusal_of, to_come}
+use Rattle.gft_outside.specs.Words.{Came, Ended, HasNoBad, LaneInput, Opened, Silence, byte_count, gained, is_live, lane_arrivals, stream}
 use Rattle.gft_outside.proofs.Lemmas.{cuts, stream_came, stream_other}
 use Rattle.gft_drive.specs.Words.{Sent}
-use Rattle.gft_pass.specs.declared.Cause.{Cause}
 use Rattle.gft_pass.specs.declared.Cause.TheVariants.{BadBlock as BadBlockCame, StreamTooLong}
-use Rattle.gft_pass.specs.declared.Numbers.{Numbers}
 use Rattle.gft_pass.specs.Words.{Lane}
 use Rattle.gft_book.specs.Words.{Start}
 use Rattle.gft_receive.specs.declared.channels.LiveChannel.{LiveChannel}
-use Rattle.gft_receive.specs.declared.channels.Channels.{Channels}
 use Rattle.gft_receive.specs.declared.mover.Mover.{Mover}
-use Rattle.gft_receive.specs.declared.halt.Halt.{Halt}
 use Rattle.gft_receive.specs.declared.halt.Halt.TheVariants.{Stopped, Failed}
 use Rattle.gft_receive.specs.declared.halt.Unfed.TheVariants.{Stop, Refused}
-use Rattle.gft_receive.specs.Booking.{numbers_after}
 use Rattle.gft_receive.specs.Causes.{first_cause, refused_in}
 use Rattle.gft_receive.specs.Honest.{MayBring}
-use Rattle.gft_receive.specs.Moved.{IsLanesCause}
-use Rattle.gft_receive.specs.Table.{AreApart, EachReads, HoldsChannels, IsAtPlace, ReadsStream, live_numbers}
+use Rattle.gft_receive.specs.Table.{AreApart, EachReads, IsAtPlace, ReadsStream, live_numbers}
 use Rattle.gft_receive.specs.Turns.{FeedsHonest, IsFedWhole, IsUnfed, StandsBehind, Turned, bounds_of}
 use Rattle.gft_receive.proofs.CauseLemmas.{channels_piece, count_piece, piece-bad, piece-long, piece-none, refused_in-last, refused_in-none}
 use Rattle.gft_receive.proofs.FeedLemmas.{HasNoBad-append, eods-append}

@@ -1,5 +1,5 @@
 -- A run of movers: what each finds, what all have done, and how the transfer ends by it.
-use Rattle.std.proofs.Common.{◌≡◌, ◌⊎◌, ◌↔◌, ℕ, zero, suc, ◌+◌, ◌<◌, ◌≤◌, List, [], ◌∷◌, ◌++◌, length, map, set, Some, None, Ok, Err, refl, sym, ap, ◌∙◌, subst, ⊎_elim, inl, inr, arith, true≢false}
+use Rattle.std.proofs.Common.{◌≡◌, ◌↔◌, ℕ, suc, ◌+◌, ◌<◌, ◌≤◌, List, [], ◌∷◌, ◌++◌, length, map, Some, None, Ok, Err, refl, sym, ap, ◌∙◌, subst, ⊎_elim, inl, inr, arith, true≢false}
 use Rattle.std.specs.Prelude.{All, IfErr, IfOk, IfSome, IsSome, IsTrue, MatchOption, MatchResult, OnOk, Option, Result, slice_get, slice_index_or, sum_by}
 use Rattle.std.proofs.lemmas.List.{length-append, length-map}
 use Rattle.std.proofs.lemmas.Option.{get_or_from_slice_get, none-some, slice_get-get_or, slice_get_within}
@@ -15,13 +15,13 @@ use Rattle.gft_outside.specs.Words.{LaneState, no_channels}
 use Rattle.gft_pass.specs.declared.Cause.{Cause}
 use Rattle.gft_pass.specs.declared.Cause.TheVariants.{DriveFailed, Hole}
 use Rattle.gft_pass.specs.declared.Numbers.{Numbers}
-use Rattle.gft_pass.specs.Words.{AllPasses, IsAt, Lane, causes, nothing, one}
+use Rattle.gft_pass.specs.Words.{Lane, causes, nothing, one}
 use Rattle.gft_pass.proofs.Lemmas.{AllPasses-lane, AllPasses-length}
 use Rattle.gft_book.specs.declared.usage.How.{How}
 use Rattle.gft_book.specs.declared.transfer.Transfer.{Transfer}
 use Rattle.gft_book.specs.declared.transfer.Stage.{Stage}
 use Rattle.gft_book.specs.declared.transfer.Stage.TheVariants.{Rest, Reading, Storing}
-use Rattle.gft_book.specs.Words.{BookState, ComesToRest, EndsFailed, EqualsSource, FindsFailed, HasAllPasses, InTransfer, IsBook, IsKeptEnd, IsLive, IsTransfer, NeverFalls, IsLaneOf, IsPass, IsRunning, IsStarted, KeepsCause, KeepsFirst, Moving, NumbersAgree, SamePass, SameTransfer, SettledFile, SettlesBadly, SettlesWell, ShowsHole, Start, as_stopped, cause_of, left_out, rest_of, start_at, start_now, transfer_of, with_cause}
+use Rattle.gft_book.specs.Words.{BookState, ComesToRest, EndsFailed, EqualsSource, FindsFailed, HasAllPasses, InTransfer, IsBook, IsKeptEnd, IsLive, IsTransfer, NeverFalls, IsPass, IsRunning, IsStarted, KeepsCause, KeepsFirst, Moving, NumbersAgree, SamePass, SameTransfer, SettledFile, SettlesBadly, SettlesWell, ShowsHole, Start, as_stopped, cause_of, left_out, rest_of, start_at, start_now, transfer_of, with_cause}
 use Rattle.gft_book.proofs.Lemmas.{HasAllPasses-lane, HasAllPasses-set, IsLaneOf-lane, in_map}
 use Rattle.gft_receive.specs.declared.limits.Limits.{Limits}
 use Rattle.gft_receive.specs.declared.transfer.LaneWork.{LaneWork}

@@ -1,14 +1,12 @@
 -- The table of live channels, behind further inputs.
-use Rattle.std.proofs.Common.{◌≡◌, ◌≢◌, ◌⊎◌, ◌↔◌, ◌==◌, ◌||◌, ℕ, zero, suc, ◌+◌, ◌<◌, ◌≤◌, List, [], ◌∷◌, ◌++◌, length, map, reverse, set, Some, None, Bool, true, false, refl, sym, ap, ◌∙◌, subst, ⊎_elim, inl, inr, arith, ne_eqb}
-use Rattle.std.specs.Prelude.{Option, if◌then◌else◌, remove, slice_get}
-use Rattle.std.proofs.lemmas.Bool.{eq-eqb, eqb-true}
-use Rattle.std.proofs.lemmas.List.{append_assoc, append-nil}
-use Rattle.gft_eblock.specs.Words.{Arrival, At, Bad, Eod, Eof, IsDone, Reader, arrivals, blocks_from, eods, to_come}
-use Rattle.gft_outside.specs.Words.{Came, Ended, HasNoBad, LaneInput, Opened, Silence, channels_after, is_live, no_channels, stream, without}
-use Rattle.gft_outside.proofs.Lemmas.{gained_behind, stream_came, stream_other}
+use Rattle.std.proofs.Common.{◌≡◌, ◌==◌, ◌||◌, ℕ, zero, suc, ◌+◌, ◌<◌, List, [], ◌∷◌, ◌++◌, length, Some, Bool, true, false, refl, sym, ap, ◌∙◌, subst, arith, ne_eqb}
+use Rattle.std.specs.Prelude.{if◌then◌else◌, remove, slice_get}
+use Rattle.std.proofs.lemmas.Bool.{eq-eqb}
+use Rattle.gft_eblock.specs.Words.{Arrival, IsDone, Reader, arrivals, blocks_from, eods, to_come}
+use Rattle.gft_outside.specs.Words.{Ended, HasNoBad, LaneInput, Opened, Silence, is_live, stream, without}
 use Rattle.gft_receive.specs.declared.channels.LiveChannel.{LiveChannel}
 use Rattle.gft_receive.specs.declared.channels.Channels.{Channels}
-use Rattle.gft_receive.specs.Table.{AreApart, TakesOut, EachReads, HoldsChannels, IsAtPlace, PutsIn, ReadsStream, live_numbers}
+use Rattle.gft_receive.specs.Table.{AreApart, TakesOut, EachReads, HoldsChannels, PutsIn, ReadsStream, live_numbers}
 
 -- ---- tests
 

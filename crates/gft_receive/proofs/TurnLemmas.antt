@@ -1,16 +1,14 @@
 -- A mover, turn by turn.
-use Rattle.std.proofs.Common.{◌≡◌, ◌⊎◌, ℕ, zero, suc, ◌+◌, ◌<◌, ◌≤◌, List, [], ◌∷◌, ◌++◌, length, Some, None, true, false, refl, sym, ap, ◌∙◌, subst, ⊎_elim, inl, inr, arith}
-use Rattle.std.specs.Prelude.{Option, slice_get}
+use Rattle.std.proofs.Common.{◌≡◌, ◌⊎◌, ℕ, zero, suc, ◌+◌, ◌<◌, ◌≤◌, List, ◌∷◌, length, Some, None, refl, sym, ap, ◌∙◌, subst, ⊎_elim, inl, inr, arith}
 use Rattle.std.proofs.lemmas.Bool.{cases_lt}
 use Rattle.gft_eblock.specs.Words.{IsDone, Reader, arrivals, eods}
 use Rattle.gft_outside.specs.declared.TheConstants.{MAX_LIVE, MAX_OPENED}
-use Rattle.gft_outside.specs.Words.{Channels as Opening, Ended, LaneInput, Opened, Silence, channels_after, no_channels, stream}
+use Rattle.gft_outside.specs.Words.{Ended, LaneInput, Opened, Silence, channels_after, no_channels, stream}
 use Rattle.gft_pass.specs.declared.Cause.{Cause}
 use Rattle.gft_pass.specs.declared.Cause.TheVariants.{Idle, Lost, TooManyChannels}
-use Rattle.gft_book.specs.Words.{IsOutside}
 use Rattle.gft_receive.specs.declared.channels.Channels.{Channels}
 use Rattle.gft_receive.specs.declared.mover.Mover.{Mover}
-use Rattle.gft_receive.specs.Causes.{cause_at, first_cause}
+use Rattle.gft_receive.specs.Causes.{first_cause}
 use Rattle.gft_receive.specs.Moved.{IsLanesCause}
 use Rattle.gft_receive.specs.Table.{TakesOut, HoldsChannels, PutsIn, ReadsStream}
 use Rattle.gft_receive.specs.Turns.{StandsBehind, bounds_of}

@@ -1,5 +1,5 @@
 -- What becomes of a pass with which arrivals are booked.
-use Rattle.std.specs.Prelude.{◌≡◌, ℕ, List, [], ◌∷◌}
+use Rattle.std.specs.Prelude.{◌≡◌, List, [], ◌∷◌}
 use Rattle.gft_eblock.specs.Words.{Arrival, At, Bad, Eod, Eof}
 use Rattle.gft_eod.specs.Words.{eod_refusal, eof_refusal}
 use Rattle.gft_keep.specs.declared.KeepError.{KeepError}

@@ -1,5 +1,5 @@
 -- What a mover did with its lane and its pass.
-use Rattle.std.specs.Prelude.{◌≡◌, ◌⊎◌, ℕ, ◌≤◌, true, List, [], ◌++◌, Option, Some, None}
+use Rattle.std.specs.Prelude.{◌≡◌, ◌⊎◌, ℕ, ◌≤◌, true, List, [], ◌++◌, Some, None}
 use Rattle.gft_base.specs.Words.{Rose}
 use Rattle.gft_eblock.specs.Words.{Arrival}
 use Rattle.gft_outside.specs.Words.{Gives, IsOver, LaneInput, LaneState, lane_arrivals}

@@ -1,5 +1,5 @@
 -- How the channels of a mover stand to what it took from its lane.
-use Rattle.std.specs.Prelude.{◌≡◌, ℕ, ◌+◌, ◌<◌, ◌≤◌, ◌↔◌, false, true, List, [], ◌∷◌, ◌++◌, length, slice_get}
+use Rattle.std.specs.Prelude.{◌≡◌, ℕ, ◌+◌, ◌<◌, ◌≤◌, ◌↔◌, false, List, [], ◌∷◌, ◌++◌, length, slice_get}
 use Rattle.std.specs.Prelude.{Some, remove}
 use Rattle.gft_outside.specs.declared.TheConstants.{MAX_LIVE, MAX_OPENED}
 use Rattle.gft_base.specs.declared.TheConstants.{LIMIT}

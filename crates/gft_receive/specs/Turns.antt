@@ -1,6 +1,6 @@
 -- How a mover stands to what it took, and what a turn of it does.
 use Rattle.std.specs.Prelude.{◌≡◌, ◌⊎◌, ℕ, ◌+◌, ◌<◌, ◌≤◌, ◌↔◌, List, [], ◌∷◌, ◌++◌, length}
-use Rattle.std.specs.Prelude.{Option, Some, None, Result, Ok, Err, IfSome, reverse, true}
+use Rattle.std.specs.Prelude.{Option, Some, None, Result, Ok, Err, IfSome, reverse}
 use Rattle.gft_base.specs.Words.{Rose}
 use Rattle.gft_drive.specs.Words.{Sent}
 use Rattle.gft_eblock.specs.declared.TheConstants.{MAX_BYTES}
@@ -12,7 +12,6 @@ use Rattle.gft_eblock.specs.declared.Event.TheVariants.{Piece, Eof, Eod}
 use Rattle.gft_eblock.specs.Words.{Arrival, Bad, IsDone, Reader, eods, refusal_of, to_come}
 use Rattle.gft_outside.specs.Words.{Gives, HasNoBad, LaneInput, LaneState, byte_count, channels_after, gained}
 use Rattle.gft_outside.specs.Words.{lane_arrivals, no_channels, stream}
-use Rattle.gft_pass.specs.declared.Cause.{Cause}
 use Rattle.gft_pass.specs.declared.Numbers.{Numbers}
 use Rattle.gft_pass.specs.Words.{Lane, nothing}
 use Rattle.gft_book.specs.Words.{IsOutside, Learns, SamePass, Start}

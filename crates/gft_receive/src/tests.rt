@@ -538,6 +538,16 @@ fn wide_lane(alloc: Global, lane: u8) -> Result<MemoryLane, Fail>
     Ok(MemoryLane::new(items, Vec::new(alloc)))
 }
 
+fn wide_lanes(alloc: Global) -> Result<Vec<MemoryLane>, Fail>
+    ensures { IfOk result (λ lanes. All (λ lane. (lane_state lane).channels ≡ no_channels) lanes.items) }
+{
+    let mut lanes = Vec::new(alloc);
+    for lane in 0..16u8 {
+        lanes.push(wide_lane(alloc, lane)?)?;
+    }
+    Ok(lanes)
+}
+
 fn is_generated(bytes: &[u8]) -> bool {
     for (offset, &byte) in bytes.iter().enumerate() {
         if byte != byte_at(offset as u64) {
@@ -550,10 +560,7 @@ fn is_generated(bytes: &[u8]) -> bool {
 #[test]
 fn sixteen_lanes_bring_a_mebibyte(rt: HostRuntime) -> Result<(), Fail> {
     let alloc = rt.alloc();
-    let mut lanes = Vec::new(alloc);
-    for lane in 0..16u8 {
-        lanes.push(wide_lane(alloc, lane)?)?;
-    }
+    let lanes = wide_lanes(alloc)?;
     let drive = MemoryDrive::new(alloc, b"name", 1_048_576, u32::MAX, &[])?;
     let book = book_over(alloc, drive)?;
     let (end, book) = transfer(&rt, alloc, book, How::Fresh, lanes, 3)?;

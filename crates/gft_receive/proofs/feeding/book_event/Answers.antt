@@ -1,4 +1,4 @@
-use Rattle.std.proofs.Common.{◌≡◌, Some, ap, subst}
+use Rattle.std.proofs.Common.{Some, subst}
 use Rattle.gft_drive.specs.Words.{sent_by}
 use Rattle.gft_eblock.specs.declared.Event.{Event}
 use Rattle.gft_eblock.specs.Words.{event_arrivals}

@@ -1,5 +1,5 @@
-use Rattle.std.proofs.Common.{◌≡◌, ◌∙◌, Some, None, ap, arith, refl, rules, subst, sym, true, false}
-use Rattle.std.specs.Prelude.{IsNone, Option}
+use Rattle.std.proofs.Common.{◌∙◌, arith, rules, subst}
+use Rattle.std.specs.Prelude.{Option}
 use Rattle.gft_drive.specs.Words.{sent_by}
 use Rattle.gft_eblock.specs.declared.Event.{Event}
 use Rattle.gft_eblock.specs.Words.{IsEventOf}

@@ -1,4 +1,4 @@
-use Rattle.std.proofs.Common.{◌≡◌, ◌∙◌, ap, refl, rules, true, if◌then◌else◌}
+use Rattle.std.proofs.Common.{◌∙◌, ap, refl}
 use Rattle.gft_drive.specs.Words.{sent_by}
 use Rattle.gft_receive.specs.Moved.{Bounds}
 use Rattle.gft_receive.proofs.MoverLemmas.{moved_done, moved_ended, moved_failed, moved_first, moved_on, moved_still, moved_stopped}

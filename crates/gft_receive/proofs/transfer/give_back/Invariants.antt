@@ -1,4 +1,4 @@
-use Rattle.std.proofs.Common.{◌≡◌, ◌+◌, ◌<◌, ◌≤◌, ◌++◌, length, map, vec_len}
+use Rattle.std.proofs.Common.{◌≡◌, ◌+◌, ◌<◌, ◌≤◌, ◌++◌, map, vec_len}
 use Rattle.std.specs.Prelude.{vec_capacity}
 use Rattle.gft_receive.proofs.transfer.give_back.Given as goal
 

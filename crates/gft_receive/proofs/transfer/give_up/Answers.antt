@@ -1,9 +1,9 @@
-use Rattle.std.proofs.Common.{◌∙◌, ◌++◌, ◌∷◌, [], List, length, refl, rules, subst, sym}
+use Rattle.std.proofs.Common.{◌++◌, ◌∷◌, [], List, length, subst, sym}
 use Rattle.gft_drive.specs.Words.{sent_by}
 use Rattle.gft_keep.specs.Words.{keep_of}
 use Rattle.gft_pass.specs.declared.Cause.TheVariants.{Memory}
 use Rattle.gft_pass.specs.Words.{Lane}
-use Rattle.gft_book.specs.Words.{HasAllPasses, IsLive, book_of, start_now}
+use Rattle.gft_book.specs.Words.{HasAllPasses, book_of, start_now}
 use Rattle.gft_book.proofs.Lemmas.{IsLive-carries_on, IsLive-running, KeptSince-keeps}
 use Rattle.gft_receive.proofs.ListLemmas.{at_last}
 use Rattle.gft_receive.proofs.RunLemmas.{ends_for, fail_kept, fail_passes, last_table, pass_there}

@@ -1,4 +1,4 @@
-use Rattle.std.proofs.Common.{◌≡◌, ◌++◌, ◌∷◌, [], List, rules, subst, sym}
+use Rattle.std.proofs.Common.{List, subst}
 use Rattle.gft_pass.specs.Words.{Lane}
 use Rattle.gft_receive.specs.Transfer.{AreFresh}
 use Rattle.gft_receive.proofs.transfer.receive.Goals as goal

@@ -1,8 +1,7 @@
-use Rattle.std.proofs.Common.{◌≡◌, ◌∙◌, ◌++◌, ◌∷◌, ◌<◌, [], ℕ, List, length, map, ap, refl, rules, subst, sym}
+use Rattle.std.proofs.Common.{◌≡◌, ◌∙◌, ◌++◌, ◌∷◌, ◌<◌, [], ℕ, List, length, map, ap, refl, subst, sym}
 use Rattle.std.specs.Prelude.{All, slice_index_or}
 use Rattle.gft_drive.specs.Words.{sent_by}
 use Rattle.gft_keep.specs.Words.{keep_of}
-use Rattle.gft_pass.specs.declared.Numbers.{Numbers}
 use Rattle.gft_pass.specs.Words.{Lane, nothing}
 use Rattle.gft_book.specs.Words.{HasAllPasses, book_of, start_now}
 use Rattle.gft_book.proofs.Lemmas.{IsLive-running, KeptSince-keeps, passes_fit}

@@ -1,4 +1,4 @@
-use Rattle.std.proofs.Common.{◌≡◌, ap, refl, rules, ◌∙◌, length}
+use Rattle.std.proofs.Common.{ap, refl, ◌∙◌, length}
 use Rattle.gft_receive.specs.declared.channels.Channels.{Channels}
 use Rattle.gft_receive.proofs.TurnLemmas.{opened_goes, opened_shows, same_bounds}
 use Rattle.gft_receive.proofs.mover.Mover.open.Goals as goal

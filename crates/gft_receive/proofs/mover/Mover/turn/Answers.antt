@@ -1,4 +1,4 @@
-use Rattle.std.proofs.Common.{◌≡◌, ◌∙◌, ap, arith, inl, inr, refl, rules, subst, sym, take, length, reverse, map, true, List, ℕ, [], ◌∷◌}
+use Rattle.std.proofs.Common.{◌≡◌, ◌∙◌, ap, inr, refl, subst, sym, take, reverse, map, true, List, ℕ, [], ◌∷◌}
 use Rattle.gft_drive.specs.Words.{sent_by}
 use Rattle.gft_outside.specs.Words.{Came, Channels, Ended, LaneInput, Opened, Silence, is_live}
 use Rattle.gft_receive.specs.Turns.{FeedsHonest, Turned, bounds_of}

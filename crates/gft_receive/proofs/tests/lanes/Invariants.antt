@@ -1,0 +1,7 @@
+use Rattle.std.proofs.Common.{◌≡◌}
+use Rattle.std.specs.Prelude.{All}
+use Rattle.gft_outside.specs.Words.{lane_state, no_channels}
+use Rattle.gft_receive.proofs.tests.lanes.Given as goal
+
+abbrev pub invariant-loop-items : goal.invariant-loop-items
+invariant-loop-items l = All (λ lane. (lane_state lane).channels ≡ no_channels) l.lanes.items
