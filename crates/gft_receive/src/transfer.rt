@@ -175,9 +175,12 @@ fn give_up<L: Lane + Drop, D: Drive + Drop, O: Origin>(
     book.fail(&mut teller, Cause::Memory);
     passes.push_reserved(teller);
     book.facts();
-    let end = book.settle(passes);
+    let ending = book.settle(passes);
     Received {
-        outcome: Outcome { end, told: 0 },
+        outcome: Outcome {
+            end: ending,
+            told: 0,
+        },
         book,
         lanes,
     }

@@ -13,8 +13,8 @@ pub fail-requires-clause-pass : goal.fail-requires-clause-pass
 fail-requires-clause-pass g c κs within =
     pass_there c.args.book.stage (c.args.passes.items ++ c.args.teller ∷ []) (length c.args.passes.items) c.args.teller c.requires.passes (at_last c.args.passes.items c.args.teller)
 
-pub settle-end-requires-clause-passes : goal.settle-end-requires-clause-passes
-settle-end-requires-clause-passes g c κs within =
+pub settle-ending-requires-clause-passes : goal.settle-ending-requires-clause-passes
+settle-ending-requires-clause-passes g c κs within =
     subst (λ (l : List Lane). HasAllPasses c.fail.new.self.stage l) (sym c.push_reserved.ensures.items)
     (fail_passes c.args.book.stage c.fail.new.self.stage c.args.passes.items c.args.teller c.fail.new.pass Memory c.fail.ensures.calls_on.goes_on.transfer c.fail.ensures.failed c.requires.passes)
 
@@ -24,7 +24,7 @@ returns-clause-rest g c =
     let before = book_of g.D.Drive.state c.args.book in
     let failed = book_of g.D.Drive.state c.fail.new.self in
     let live = IsLive-carries_on (start_now before) before failed c.facts.ensures.keep (IsLive-running sent before c.facts.ensures c.requires.running) c.fail.ensures.calls_on.goes_on in
-    (c.settle-end.ensures.rest.rest, last_table (start_now before) c.fail.new.self.stage c.settle-end.new.self.last live.transfer c.settle-end.ensures.rest.last)
+    (c.settle-ending.ensures.rest.rest, last_table (start_now before) c.fail.new.self.stage c.settle-ending.new.self.last live.transfer c.settle-ending.ensures.rest.last)
 
 pub returns-clause-kept : goal.returns-clause-kept
 returns-clause-kept g c =
@@ -32,10 +32,10 @@ returns-clause-kept g c =
     let before = book_of g.D.Drive.state c.args.book in
     let failed = book_of g.D.Drive.state c.fail.new.self in
     let live = IsLive-carries_on (start_now before) before failed c.facts.ensures.keep (IsLive-running sent before c.facts.ensures c.requires.running) c.fail.ensures.calls_on.goes_on in
-    KeptSince-keeps (start_now before) failed.keep (keep_of g.D.Drive.state c.settle-end.new.self.keep) c.facts-2.ensures.keep live.kept c.settle-end.ensures.keeps.keeps
+    KeptSince-keeps (start_now before) failed.keep (keep_of g.D.Drive.state c.settle-ending.new.self.keep) c.facts-2.ensures.keep live.kept c.settle-ending.ensures.keeps.keeps
 
 pub returns-clause-memory : goal.returns-clause-memory
 returns-clause-memory g c =
-    ends_for (keep_of g.D.Drive.state c.fail.new.self.keep) (keep_of g.D.Drive.state c.settle-end.new.self.keep) Memory c.fail.new.self.stage c.settle-end.result
+    ends_for (keep_of g.D.Drive.state c.fail.new.self.keep) (keep_of g.D.Drive.state c.settle-ending.new.self.keep) Memory c.fail.new.self.stage c.settle-ending.result
     (fail_kept c.args.book.stage c.fail.new.self.stage c.args.teller c.fail.new.pass Memory c.requires.running c.fail.ensures.failed)
-    c.settle-end.ensures.finished c.settle-end.ensures.refused
+    c.settle-ending.ensures.finished c.settle-ending.ensures.refused
