@@ -87,56 +87,10 @@ fn blocks_without_what_is_done_go_to_stripes_and_channels_in_turn(
 /// What a case cuts, and the one block that it gives, if any.
 type Row = (Range, Layout, Shape, u16, Option<Range>);
 
-#[test]
-fn a_stripe_gets_its_part_up_to_the_end_of_the_region(rt: HostRuntime) -> Result<(), Fail> {
-    let none_done = set_of(&rt, rt.alloc(), &[])?;
-    let three = Shape {
-        stripes: 3,
-        parallel: 1,
-    };
-    let sixteen = Shape {
-        stripes: 16,
-        parallel: 1,
-    };
-    let partitioned = Layout::Partitioned;
-    let fours = Layout::Blocked { block: 4 };
-    let half = Layout::Blocked { block: 1 << 63 };
-    let top = u64::MAX;
-    let rows: [Row; 14] = [
-        (range(0, 10), partitioned, three, 0, Some(range(0, 4))),
-        (range(0, 10), partitioned, three, 1, Some(range(4, 8))),
-        (range(0, 10), partitioned, three, 2, Some(range(8, 10))),
-        (range(0, 10), fours, three, 0, Some(range(0, 4))),
-        (range(0, 10), fours, three, 1, Some(range(4, 8))),
-        (range(0, 10), fours, three, 2, Some(range(8, 10))),
-        (range(5, 5), partitioned, three, 0, None),
-        (range(7, 3), fours, three, 1, None),
-        (
-            range(top - 5, top),
-            partitioned,
-            sixteen,
-            4,
-            Some(range(top - 1, top)),
-        ),
-        (range(top - 5, top), partitioned, sixteen, 5, None),
-        (range(top - 5, top), partitioned, sixteen, 15, None),
-        (
-            range(5, top),
-            half,
-            three,
-            0,
-            Some(range(5, 9_223_372_036_854_775_813)),
-        ),
-        (
-            range(5, top),
-            half,
-            three,
-            1,
-            Some(range(9_223_372_036_854_775_813, top)),
-        ),
-        (range(5, top), half, three, 2, None),
-    ];
-    for (region, layout, shape, stripe, block) in rows {
+/// Asserts that channel 0 of each row's stripe has this block, and no other.
+fn has_one_block(rt: &impl Abort, alloc: Global, rows: &[Row]) -> Result<(), Fail> {
+    let none_done = set_of(rt, alloc, &[])?;
+    for &(region, layout, shape, stripe, block) in rows {
         let case = Case {
             region,
             layout,
@@ -145,11 +99,54 @@ fn a_stripe_gets_its_part_up_to_the_end_of_the_region(rt: HostRuntime) -> Result
             channel: 0,
         };
         match block {
-            Some(block) => has_blocks(&rt, &none_done, case, &[block]),
-            None => has_blocks(&rt, &none_done, case, &[]),
+            Some(block) => has_blocks(rt, &none_done, case, &[block]),
+            None => has_blocks(rt, &none_done, case, &[]),
         }
     }
     Ok(())
+}
+
+/// Stripes of one channel.
+fn alone(stripes: u16) -> Shape {
+    Shape {
+        stripes,
+        parallel: 1,
+    }
+}
+
+#[test]
+fn a_stripe_gets_its_part_up_to_the_end_of_the_region(rt: HostRuntime) -> Result<(), Fail> {
+    let partitioned = Layout::Partitioned;
+    let fours = Layout::Blocked { block: 4 };
+    let rows: [Row; 8] = [
+        (range(0, 10), partitioned, alone(3), 0, Some(range(0, 4))),
+        (range(0, 10), partitioned, alone(3), 1, Some(range(4, 8))),
+        (range(0, 10), partitioned, alone(3), 2, Some(range(8, 10))),
+        (range(0, 10), fours, alone(3), 0, Some(range(0, 4))),
+        (range(0, 10), fours, alone(3), 1, Some(range(4, 8))),
+        (range(0, 10), fours, alone(3), 2, Some(range(8, 10))),
+        (range(5, 5), partitioned, alone(3), 0, None),
+        (range(7, 3), fours, alone(3), 1, None),
+    ];
+    has_one_block(&rt, rt.alloc(), &rows)
+}
+
+#[test]
+fn a_region_may_end_at_the_top(rt: HostRuntime) -> Result<(), Fail> {
+    let top = u64::MAX;
+    let last = range(top - 5, top);
+    let partitioned = Layout::Partitioned;
+    let half = Layout::Blocked { block: 1 << 63 };
+    let middle = 9_223_372_036_854_775_813;
+    let rows: [Row; 6] = [
+        (last, partitioned, alone(16), 4, Some(range(top - 1, top))),
+        (last, partitioned, alone(16), 5, None),
+        (last, partitioned, alone(16), 15, None),
+        (range(5, top), half, alone(3), 0, Some(range(5, middle))),
+        (range(5, top), half, alone(3), 1, Some(range(middle, top))),
+        (range(5, top), half, alone(3), 2, None),
+    ];
+    has_one_block(&rt, rt.alloc(), &rows)
 }
 
 #[test]
