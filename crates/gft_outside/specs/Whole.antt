@@ -58,7 +58,8 @@ all_eods shift (inputs ∷ lanes) = eods (lane_arrivals shift inputs) + all_eods
 -- the lanes of a STOR: those of its plan, each whole, and one of them announces the total
 pub record AreWhole (source : List ℕ) (orders : Orders)
     (lanes : List (List LaneInput)) : Type 0 where
-  pub each : (k : ℕ) → (inputs : List LaneInput) → slice_get lanes k ≡ Some inputs → IsWholeLane source orders k inputs
+  pub each : (k : ℕ) → (inputs : List LaneInput) → slice_get lanes k ≡ Some inputs
+      → IsWholeLane source orders k inputs
   pub announced : IsSome (first_of (all_totals 0 lanes))
   pub sum : sum_below orders.number (length lanes) ≡ total_of orders
 
