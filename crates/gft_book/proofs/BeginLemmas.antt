@@ -1,5 +1,5 @@
 -- A Book whose keep was looked at, and attached again where it was broken.
-use Rattle.std.proofs.Common.{◌≡◌, ◌≢◌, ◌⊎◌, ℕ, List, [], ◌∷◌, Some, false, refl, sym, ap, ◌∙◌, subst, ⊎_elim, inl, inr, arith}
+use Rattle.std.proofs.Common.{◌≡◌, ◌≢◌, ◌⊎◌, ℕ, ◌≤◌, List, [], ◌∷◌, Some, None, false, refl, sym, ap, ◌∙◌, subst, ⊎_elim, inl, inr, arith}
 use Rattle.std.specs.Prelude.{Option, IsSome, IfSome, slice_get}
 use Rattle.std.proofs.lemmas.Option.{none-some, same_Some}
 use Rattle.gft_range.specs.declared.Range.{Range}
@@ -18,13 +18,13 @@ use Rattle.gft_book.specs.declared.begin.BeginError.{BeginError}
 use Rattle.gft_book.specs.declared.begin.BeginError.TheVariants as begin
 use Rattle.gft_book.specs.declared.mark.Mark.{Mark}
 use Rattle.gft_book.specs.declared.usage.How.{How}
-use Rattle.gft_book.specs.declared.transfer.Stage.{Stage}
+use Rattle.gft_book.specs.declared.transfer.Transfer.{Transfer}
 use Rattle.gft_book.specs.declared.transfer.Stage.TheVariants.{Rest, Reading}
 use Rattle.gft_book.specs.Book.{BookState, transfer_of}
 use Rattle.gft_book.specs.Keeping.{Keeps, NeverFalls}
 use Rattle.gft_book.specs.Facts.{IsBook, IsFrom, IsTransfer, MarksHold}
 use Rattle.gft_book.specs.Fits.{Fits, MayGoOn, Recovers, TellsTransfer}
-use Rattle.gft_book.specs.Begin.{CountsBegin, FindsKeep, IsFound, Known, Looks, RefusedFor, known_of}
+use Rattle.gft_book.specs.Begin.{CountsBegin, FindsKeep, IsFound, Known, Looks, NotRecovered, RefusedFor, known_of}
 use Rattle.gft_book.proofs.ChoiceLemmas.{if_map, is_there, not_there, off, some_there}
 use Rattle.gft_book.proofs.KeepLemmas.{Elapses-same, held_covers, held_same, image_since, torn_held, whole_read}
 
@@ -45,7 +45,7 @@ Elapses-then old mid new lawful f g =
 abbrev pub SameImages : DriveState → DriveState → Type 0
 SameImages old new = LeavesBy (λ from image. image ≡ from) old new
 
-images-then : (old mid : KeepState) (new : DriveState) → IsKeep mid → Elapses old.drive mid.drive → Elapses mid.drive new → SameImages old.drive mid.drive → SameImages mid.drive new → SameImages old.drive new
+pub images-then : (old mid : KeepState) (new : DriveState) → IsKeep mid → Elapses old.drive mid.drive → Elapses mid.drive new → SameImages old.drive mid.drive → SameImages mid.drive new → SameImages old.drive new
 images-then old mid new sound f g first_ second_ told image left =
     ⊎_elim
     (λ before. first_ told image before)
@@ -119,6 +119,17 @@ FindsKeep-looks old mid new sound finds whole looks =
       whole = λ is. (looks.whole, looks.known ∙ (finds.whole is).1);
       broken = λ not_whole. inl looks.whole;
     }
+
+-- a keep that isn't attached again bars each begin
+pub not_recovered : (old : KeepState) (file : Known) (how : How) (error : BeginError) → NotRecovered old error → RefusedFor old file how error
+not_recovered old file how (begin.CompleteAlready len) r = absurd r
+not_recovered old file how (begin.NotInJournal missing) r = absurd r
+not_recovered old file how (begin.Damaged damage) r = r
+not_recovered old file how begin.OutOfMemory r = inl r
+not_recovered old file how begin.DriveFailed r = inl r
+not_recovered old file how (begin.Busy found) r = absurd r
+not_recovered old file how begin.NoSuch r = absurd r
+not_recovered old file how begin.Incomplete r = absurd r
 
 -- a refusal of the look is one of the begin
 pub refused_on : (old mid new : KeepState) (how : How) (error : BeginError) → mid.standing ≡ Whole → known_of new ≡ known_of mid → RefusedFor mid (known_of mid) how error → RefusedFor old (known_of new) how error
@@ -196,8 +207,9 @@ Keeps-finds old new sound sound' finds counted never told =
           ap (λ (i : Image). held i x) from.2 ∙ held_same old sound (not_emptying old.standing never) x v kept told' from.0 from.1;
     }
 
-pub IsBook-finds : (sent : List ℕ → Option Sent) (old new : BookState) → IsBook sent old → old.stage ≡ Rest → new.stage ≡ old.stage → new.marks ≡ old.marks → IsKeep new.keep → FindsKeep old.keep new.keep → IsBook sent new
-IsBook-finds sent old new b rest stage marks sound finds =
+-- a Book without a transfer stays one when its keep is found
+pub IsBook-looked : (sent : List ℕ → Option Sent) (old new : BookState) → IsBook sent old → transfer_of new.stage ≡ None → ((n : ℕ) → new.stage ≡ Reading n → 1 ≤ n) → new.marks ≡ old.marks → IsKeep new.keep → FindsKeep old.keep new.keep → IsBook sent new
+IsBook-looked sent old new b idle readers marks sound finds =
     record {
       keep = sound;
       marks = subst (λ (l : List Mark). MarksHold new.keep l) (sym marks) (record {
@@ -216,9 +228,13 @@ IsBook-finds sent old new b rest stage marks sound finds =
           let told' = finds.time.goes.tells.0 told in
           let l = finds.images told' image (image_since old.keep new.keep image sound finds.time now) in
           subst (IsFrom s.source) (sym l.2) (from told' l.0 l.1)) b.origin);
-      transfer = subst (λ (s : Stage). IfSome (transfer_of s) (IsTransfer sent new.keep)) (sym (stage ∙ rest)) tt;
-      reading = λ n is. let e : Rest ≡ Reading n = sym (stage ∙ rest) ∙ is in cc;
+      transfer = subst (λ (t : Option Transfer). IfSome t (IsTransfer sent new.keep)) (sym idle) tt;
+      reading = readers;
     }
+
+pub IsBook-finds : (sent : List ℕ → Option Sent) (old new : BookState) → IsBook sent old → old.stage ≡ Rest → new.stage ≡ old.stage → new.marks ≡ old.marks → IsKeep new.keep → FindsKeep old.keep new.keep → IsBook sent new
+IsBook-finds sent old new b rest stage marks sound finds =
+    IsBook-looked sent old new b (ap transfer_of (stage ∙ rest)) (λ n is. let e : Rest ≡ Reading n = sym (stage ∙ rest) ∙ is in cc) marks sound finds
 
 -- ---- the count of faults
 
@@ -235,8 +251,8 @@ counted_begin begin.Incomplete before now same = omega (arith, same)
 -- ---- the events
 
 -- the Crash with what a read gives fits
-fits_crash : (new : BookState) (events : List CoreEvent) (read : Image) → IsKeep new.keep → new.stage ≡ Rest → new.keep.standing ≡ Whole → new.keep.drive.contents ≡ Some read → Legal (Crash read ∷ events) → Fits new (Crash read ∷ events)
-fits_crash new events read sound rest whole is legal =
+fits_crash : (new : BookState) (events : List CoreEvent) (read : Image) → IsKeep new.keep → transfer_of new.stage ≡ None → new.keep.standing ≡ Whole → new.keep.drive.contents ≡ Some read → Legal (Crash read ∷ events) → Fits new (Crash read ∷ events)
+fits_crash new events read sound idle whole is legal =
     let told = some_there new.keep.drive.contents read is in
     let is_read = whole_read new.keep whole sound told read (sound.lawful.read read is) in
     let same : (x : ℕ) → kept (Crash read ∷ events) x ≡ held read x = crash_kept read events legal in
@@ -259,8 +275,8 @@ fits_crash new events read sound rest whole is legal =
             tt,
           ));
       closed = λ _. refl;
-      transfer = subst (λ (s : Stage). IfSome (transfer_of s) (TellsTransfer (Crash read ∷ events))) (sym rest) tt;
-      marks = λ there. absurd (not_there (transfer_of new.stage) (ap transfer_of rest) there);
+      transfer = subst (λ (t : Option Transfer). IfSome t (TellsTransfer (Crash read ∷ events))) (sym idle) tt;
+      marks = λ there. absurd (not_there (transfer_of new.stage) idle there);
     }
 
 -- a Fresh, and then an image that names nothing
@@ -287,8 +303,8 @@ pub record FoundEvents (old new : BookState) (events : List CoreEvent) : Type 0 
   pub recovers : Recovers old.keep.standing events now
   pub fits : Fits new now
 
-pub Fits-finds : (old new : BookState) (events : List CoreEvent) → IsKeep old.keep → IsKeep new.keep → old.stage ≡ Rest → new.stage ≡ old.stage → FindsKeep old.keep new.keep → IsSome old.keep.drive.contents → Fits old events → FoundEvents old new events
-Fits-finds old new events sound sound' rest stage finds told f =
+pub Fits-looked : (old new : BookState) (events : List CoreEvent) → IsKeep old.keep → IsKeep new.keep → transfer_of new.stage ≡ None → FindsKeep old.keep new.keep → IsSome old.keep.drive.contents → Fits old events → FoundEvents old new events
+Fits-looked old new events sound sound' idle finds told f =
     ⊎_elim
     (λ (same : (new.keep.standing ≡ old.keep.standing) × (new.keep.ranges ≡ old.keep.ranges)). record {
       now = events;
@@ -300,8 +316,8 @@ Fits-finds old new events sound sound' rest stage finds told f =
             let l = finds.images told image (image_since old.keep new.keep image sound' finds.time now) in
             subst (λ (s : Standing). MayGoOn s events image) (sym same.0) (subst (λ (i : Image). MayGoOn old.keep.standing events i) (sym l.2) (f.images told l.0 l.1));
         closed = λ h. f.closed (λ t. h (same.0 ∙ t));
-        transfer = subst (λ (s : Stage). IfSome (transfer_of s) (TellsTransfer events)) (sym (stage ∙ rest)) tt;
-        marks = λ there. absurd (not_there (transfer_of new.stage) (ap transfer_of (stage ∙ rest)) there);
+        transfer = subst (λ (t : Option Transfer). IfSome t (TellsTransfer events)) (sym idle) tt;
+        marks = λ there. absurd (not_there (transfer_of new.stage) idle there);
       };
     })
     (λ (again : (old.keep.standing ≢ Whole) × (new.keep.standing ≡ Whole)).
@@ -318,19 +334,22 @@ Fits-finds old new events sound sound' rest stage finds told f =
         record {
           now = Crash read ∷ events;
           recovers = subst (λ (s : Standing). Recovers s events (Crash read ∷ events)) (sym was) (inr (read, refl));
-          fits = fits_crash new events read sound' (stage ∙ rest) whole is legal;
+          fits = fits_crash new events read sound' idle whole is legal;
         }
     by_standing broken whole read is goes Emptying was =
         ⊎_elim
         (λ legal. record {
           now = Crash read ∷ events;
           recovers = subst (λ (s : Standing). Recovers s events (Crash read ∷ events)) (sym was) (inr (inl (read, refl)));
-          fits = fits_crash new events read sound' (stage ∙ rest) whole is legal;
+          fits = fits_crash new events read sound' idle whole is legal;
         })
         (λ none. let legal = legal_fresh read events f.legal (f.closed (λ t. let w : Emptying ≡ Torn = sym was ∙ t in cc)) none in
         record {
           now = Crash read ∷ (Fresh ∷ events);
           recovers = subst (λ (s : Standing). Recovers s events (Crash read ∷ (Fresh ∷ events))) (sym was) (inr (inr (read, refl, none)));
-          fits = fits_crash new (Fresh ∷ events) read sound' (stage ∙ rest) whole is legal;
+          fits = fits_crash new (Fresh ∷ events) read sound' idle whole is legal;
         })
         (subst (λ (s : Standing). MayGoOn s events read) was goes)
+
+pub Fits-finds : (old new : BookState) (events : List CoreEvent) → IsKeep old.keep → IsKeep new.keep → old.stage ≡ Rest → new.stage ≡ old.stage → FindsKeep old.keep new.keep → IsSome old.keep.drive.contents → Fits old events → FoundEvents old new events
+Fits-finds old new events sound sound' rest stage finds told f = Fits-looked old new events sound sound' (ap transfer_of (stage ∙ rest)) finds told f

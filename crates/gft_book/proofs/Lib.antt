@@ -13,6 +13,7 @@ mod SettleLemmas
 mod MissingLemmas
 mod BeginLemmas
 mod StartLemmas
+mod ReaderLemmas
 mod LiveLemmas
 mod PassesLemmas
 -- what the proofs of other crates may cite

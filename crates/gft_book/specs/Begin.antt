@@ -78,6 +78,13 @@ abbrev pub MayAsk : Known → How → Type 0
 MayAsk file Esto = file.complete ≡ None
 MayAsk file other = Admits file other
 
+-- a keep that a call had broken isn't attached again
+abbrev pub NotRecovered : KeepState → BeginError → Type 0
+NotRecovered old (begin.Damaged damage) = (old.standing ≢ Whole) × (old.drive.contents ≡ None)
+NotRecovered old begin.OutOfMemory = old.standing ≢ Whole
+NotRecovered old begin.DriveFailed = old.standing ≢ Whole
+NotRecovered old other = ⊥
+
 -- when each refusal comes, by the file as it was found; those of attaching a broken keep again come first
 abbrev pub RefusedFor : KeepState → Known → How → BeginError → Type 0
 RefusedFor old file how (begin.CompleteAlready len) = (how ≡ Esto) × IsCompleteAlready file len

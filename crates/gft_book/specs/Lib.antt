@@ -6,4 +6,5 @@ pub mod Facts
 pub mod Fits
 pub mod Keeping
 pub mod Live
+pub mod Readers
 pub mod Words

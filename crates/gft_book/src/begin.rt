@@ -7,7 +7,7 @@ ghost use Rattle.gft_keep.specs.Words.{Broke, IsKeep, IsUnbroken, MovesBy, keep_
 ghost use Rattle.gft_keep.specs.declared.Standing.TheVariants.{Whole};
 ghost use Rattle.gft_book.specs.Begin.{Admits, BeginsEvents, BeginsIn, BeginsStore, CountsAnswer};
 ghost use Rattle.gft_book.specs.Begin.{CountsRefusal, FindsKeep, IsFirstUnkept, KeepsUnlessFresh, Looks};
-ghost use Rattle.gft_book.specs.Begin.{MayOpen, NamesSome, NotBegun, OpensFor, RefusedFor, broken_by};
+ghost use Rattle.gft_book.specs.Begin.{MayOpen, NamesSome, NotBegun, NotRecovered, OpensFor, RefusedFor, broken_by};
 ghost use Rattle.gft_book.specs.Begin.{known_of, marks_left};
 ghost use Rattle.gft_book.specs.Book.{book_of};
 ghost use Rattle.gft_book.specs.Fits.{Fits};
@@ -121,13 +121,12 @@ fn prepare<D: Drive + Drop>(keep: &mut Keep<D>, how: &How) -> Option<BeginError>
 }
 
 /// Attaches a keep again that a failed call broke.
-fn recover<D: Drive + Drop>(keep: &mut Keep<D>) -> Result<(), BeginError>
+pub(crate) fn recover<D: Drive + Drop>(keep: &mut Keep<D>) -> Result<(), BeginError>
     requires keep { IsKeep (keep_of D.state keep.old) }
     ensures keep { IsKeep (keep_of D.state keep.new) }
     ensures finds { FindsKeep (keep_of D.state keep.old) (keep_of D.state keep.new) }
     ensures ready { OnOk result ((keep_of D.state keep.new).standing ≡ Whole) }
-    ensures refused { IfErr result (λ error. (how : _) → RefusedFor (keep_of D.state keep.old)
-        (known_of (keep_of D.state keep.new)) how error) }
+    ensures refused { IfErr result (NotRecovered (keep_of D.state keep.old)) }
     ensures counts { CountsAnswer (keep_of D.state keep.old).drive.faults
         (keep_of D.state keep.new).drive.faults result }
 {

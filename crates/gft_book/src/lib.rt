@@ -13,6 +13,7 @@ mod ending;
 mod live;
 mod mark;
 mod marking;
+mod readers;
 mod taking;
 #[cfg(test)]
 mod tests;
@@ -26,4 +27,5 @@ pub use ending::Finished;
 pub use gft_pass::{Cause, Numbers, Pass};
 pub use live::{Live, Run, Shared};
 pub use mark::Mark;
+pub use readers::Reading;
 pub use usage::{How, Use};

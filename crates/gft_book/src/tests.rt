@@ -223,6 +223,82 @@ fn a_begin_is_refused_for_its_cause(rt: HostRuntime) -> Result<(), Fail> {
     Ok(())
 }
 
+/// How long a file that a reader is lent is, and how many drives with its bytes the reader has; or why it is
+/// lent nothing.
+fn read<'a>(book: &mut MemoryBook, bytes: &'a [u8]) -> Result<(u64, usize), BeginError> {
+    let reading = book.begin_read(2)?;
+    let drives = reading.drives.as_slice();
+    let same = drives.iter().filter(|drive| drive.bytes() == bytes);
+    Ok((reading.len, same.count()))
+}
+
+#[test]
+fn a_file_that_is_not_complete_has_no_reader(rt: HostRuntime) -> Result<(), Fail> {
+    let mut book = new_book(rt.alloc(), &[])?;
+    assert_eq!(rt; read(&mut book, b""), Err(BeginError::NoSuch));
+    assert_eq!(rt; run(&mut book, How::Fresh, &[(0, HELLO)])?.is_ok(), false);
+    assert_eq!(rt; read(&mut book, b""), Err(BeginError::Incomplete));
+    assert_eq!(rt; book.use_now(), Use::Rest);
+    Ok(())
+}
+
+#[test]
+fn readers_of_a_complete_file_are_counted(rt: HostRuntime) -> Result<(), Fail> {
+    let mut book = new_book(rt.alloc(), &[])?;
+    assert_eq!(rt; run(&mut book, How::Fresh, &ONE_LANE)?, Ok((10, true)));
+    assert_eq!(rt; read(&mut book, b"helloworld"), Ok((10, 2)));
+    assert_eq!(rt; read(&mut book, b"helloworld"), Ok((10, 2)));
+    let found = Use::Reading(2);
+    assert_eq!(rt;
+        refusal(&mut book, How::Fresh),
+        Some(BeginError::Busy { found })
+    );
+    book.end_read();
+    assert_eq!(rt; book.use_now(), Use::Reading(1));
+    book.end_read();
+    book.end_read();
+    assert_eq!(rt; book.use_now(), Use::Rest);
+    Ok(())
+}
+
+#[test]
+fn a_file_that_is_stored_is_busy(rt: HostRuntime) -> Result<(), Fail> {
+    let mut book = new_book(rt.alloc(), &[])?;
+    let _passes = begin(&mut book, How::Fresh)?;
+    let found = Use::Storing;
+    assert_eq!(rt; read(&mut book, b""), Err(BeginError::Busy { found }));
+    book.end_read();
+    assert_eq!(rt; book.use_now(), found);
+    Ok(())
+}
+
+#[test]
+fn a_file_made_elsewhere_is_read_whole(rt: HostRuntime) -> Result<(), Fail> {
+    let mut drive = new_drive(rt.alloc(), &[])?;
+    drive.write_at(Part::Bytes, 0, b"hello")?;
+    let mut book = book_over(rt.alloc(), drive)?;
+    assert_eq!(rt; read(&mut book, b"hello"), Ok((5, 2)));
+    Ok(())
+}
+
+// Attaching asks for the length first, and a file made elsewhere has no other.
+#[test]
+fn a_reader_is_told_that_the_drive_failed(rt: HostRuntime) -> Result<(), Fail> {
+    let call = CallKind::Len;
+    let part = Part::Bytes;
+    let failing = [FailAt {
+        call,
+        part,
+        number: 2,
+    }];
+    let mut drive = new_drive(rt.alloc(), &failing)?;
+    drive.write_at(Part::Bytes, 0, b"hello")?;
+    let mut book = book_over(rt.alloc(), drive)?;
+    assert_eq!(rt; read(&mut book, b"hello"), Err(BeginError::DriveFailed));
+    assert_eq!(rt; read(&mut book, b"hello"), Ok((5, 2)));
+    Ok(())
+}
+
 // Attaching syncs each part once. A begin afresh then syncs the birth, the rebase's bank and its selector,
 // and then the data.
 #[test]
