@@ -14,6 +14,7 @@ mod MissingLemmas
 mod BeginLemmas
 mod StartLemmas
 mod LiveLemmas
+mod TotalLemmas
 mod PassesLemmas
 -- what the proofs of other crates may cite
 pub mod Lemmas
