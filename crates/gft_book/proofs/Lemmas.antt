@@ -4,4 +4,5 @@ pub use Rattle.gft_book.proofs.LiveLemmas.{in_map, passes_fit}
 pub use Rattle.gft_book.proofs.PassesLemmas.{HasAllPasses-begun, HasAllPasses-lane, HasAllPasses-ok}
 pub use Rattle.gft_book.proofs.PassesLemmas.{HasAllPasses-set, HasAllPasses-storing, IsLanePass-same}
 pub use Rattle.gft_book.proofs.PassesLemmas.{IsLanePass-storing, Moving-refl, SamePass-store}
+pub use Rattle.gft_book.proofs.TotalLemmas.{IsLive-known, IsLive-unknown, KeepsTotal-start, KeepsTotal-untold}
 pub use Rattle.gft_book.proofs.SettleLemmas.{HasNoGap-met}

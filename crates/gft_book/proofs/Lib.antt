@@ -15,6 +15,7 @@ mod BeginLemmas
 mod StartLemmas
 mod ReaderLemmas
 mod LiveLemmas
+mod TotalLemmas
 mod PassesLemmas
 -- what the proofs of other crates may cite
 pub mod Lemmas

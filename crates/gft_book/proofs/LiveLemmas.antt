@@ -177,7 +177,7 @@ rest_now start book live =
 pub total_fits : (sent : List ℕ → Option Sent) (start : Start) (book : BookState) (total : ℕ) → IsLive start book → TotalIn sent start total → SendsTotal sent book total
 total_fits sent start book total live h =
     subst (λ (l : List ℕ). IfSome (sent l) (λ s. IfSome (rest_of book.stage) (λ r. total ≡ total_of (s.orders r)))) (sym live.kept.label)
-    (subst (λ (o : Option (List Range)). IfSome (sent start.label) (λ s. IfSome o (λ r. total ≡ total_of (s.orders r)))) (sym (rest_now start book live)) h)
+    (subst (λ (o : Option (List Range)). IfSome (sent start.label) (λ s. IfSome o (λ r. total ≡ total_of (s.orders r)))) (sym (rest_now start book live)) h.1)
 
 pub eod_fits : (sent : List ℕ → Option Sent) (start : Start) (book : BookState) (pass : Lane) → IsLive start book → EodIn sent start pass → SendsEod sent book pass
 eod_fits sent start book pass live h =

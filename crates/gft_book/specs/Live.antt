@@ -8,10 +8,11 @@ use Rattle.gft_range.specs.Words.{HasOffset}
 use Rattle.gft_drive.specs.Words.{Image, Sent, total_of}
 use Rattle.gft_eod.specs.Words.{Count}
 use Rattle.gft_eod.specs.declared.EodError.{EodError}
+use Rattle.gft_eod.specs.declared.TheConstants.{MAX_EODS}
 use Rattle.gft_keep.specs.Words.{KeepState}
 use Rattle.gft_core.specs.Words.{held}
 use Rattle.gft_pass.specs.declared.Cause.{Cause}
-use Rattle.gft_pass.specs.declared.Cause.TheVariants.{DriveFailed}
+use Rattle.gft_pass.specs.declared.Cause.TheVariants.{BadTotal, DriveFailed, TooManyEods, TwoTotals}
 use Rattle.gft_pass.specs.declared.Numbers.{Numbers}
 use Rattle.gft_pass.specs.Words.{Lane, cause_of_count}
 use Rattle.gft_book.specs.declared.usage.How.{How}
@@ -35,6 +36,8 @@ pub record Start : Type 0 where
   -- the kept ranges, and what a read gave
   pub ranges : List Range
   pub read : Option Image
+  -- the total that all lanes announce, where that is known beforehand
+  pub total : Option ℕ
 
 abbrev pub start_of : BookState → Transfer → Start
 start_of book t = record {
@@ -46,6 +49,7 @@ start_of book t = record {
   faults = book.keep.drive.faults;
   ranges = book.keep.ranges;
   read = book.keep.drive.contents;
+  total = None;
 }
 
 -- what was kept at the start is kept with its byte, as each image since has held it
@@ -71,6 +75,22 @@ pub record IsLive (start : Start) (book : BookState) : Type 0 where
   pub kept : KeptSince start book.keep
   pub failed : cause_of book.stage ≡ Some DriveFailed → Rose start.faults book.keep.drive.faults
 
+-- what may fail a transfer whose lanes all announce this total
+abbrev pub IsCauseOfTotal : ℕ → Cause → Type 0
+IsCauseOfTotal total (TwoTotals kept new) = ⊥
+IsCauseOfTotal total (BadTotal other) = other ≡ total
+IsCauseOfTotal total (TooManyEods most) = (most ≡ total) ⊎ (most ≡ MAX_EODS)
+IsCauseOfTotal total other = Unit {0}
+
+-- no other total was taken
+pub record HasOneTotal (total : ℕ) (t : Transfer) : Type 0 where
+  pub kept : (other : ℕ) → t.count.total ≡ Some other → other ≡ total
+  pub cause : IfSome t.cause (IsCauseOfTotal total)
+
+-- where the total is known, none but that was taken
+abbrev pub KeepsTotal : Start → Stage → Type 0
+KeepsTotal start stage = IfSome start.total (λ total. InTransfer (HasOneTotal total) stage)
+
 -- no transfer
 abbrev pub no_start : Start
 no_start = record {
@@ -90,6 +110,7 @@ no_start = record {
   faults = 0;
   ranges = [];
   read = None;
+  total = None;
 }
 
 -- what is known when this Book goes into its lock
@@ -113,9 +134,11 @@ BlockIn sent start pass offset bytes =
     IfSome (sent start.label) (λ s. IsOfSource s.source offset bytes
     × IfSome (left_out start.how) (λ rest. IsNext (s.orders rest) pass offset bytes))
 
+-- and the total that is known, if one is
 abbrev pub TotalIn : (List ℕ → Option Sent) → Start → ℕ → Type 0
 TotalIn sent start total =
-    IfSome (sent start.label) (λ s. IfSome (left_out start.how) (λ rest. total ≡ total_of (s.orders rest)))
+    IfSome start.total (λ known. total ≡ known)
+    × IfSome (sent start.label) (λ s. IfSome (left_out start.how) (λ rest. total ≡ total_of (s.orders rest)))
 
 abbrev pub EodIn : (List ℕ → Option Sent) → Start → Lane → Type 0
 EodIn sent start pass =

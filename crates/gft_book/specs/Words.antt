@@ -25,6 +25,6 @@ pub use Rattle.gft_book.specs.Fits.{stored_events}
 pub use Rattle.gft_book.specs.Keeping.{HoldsKept, Keeps, KeepsByte, KeepsThrough, NeverFalls, byte_read}
 pub use Rattle.gft_book.specs.Live.{BlockIn, EodIn, IsLaneOf, IsLive, IsPassOf, IsStarted, KeptSince, Learns}
 pub use Rattle.gft_book.specs.Live.{IsRefusalOf, LearnsCount, SamePass, Start, TotalIn, no_start, start_now}
-pub use Rattle.gft_book.specs.Live.{start_at, start_of}
+pub use Rattle.gft_book.specs.Live.{HasOneTotal, IsCauseOfTotal, KeepsTotal, start_at, start_of}
 pub use Rattle.gft_book.specs.Readers.{AreTwins, BeginsRead, IsReadable, MayAskLength, MayRead, NotRead, OnlyReads}
 pub use Rattle.gft_book.specs.Readers.{ReadsEvents, RefusedRead, one_reader_fewer, one_reader_more}

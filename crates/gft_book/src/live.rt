@@ -5,8 +5,8 @@ ghost use Rattle.gft_keep.specs.declared.KeepError.{KeepError};
 ghost use Rattle.gft_keep.specs.Words.{IsBlock};
 ghost use Rattle.gft_book.specs.Book.{book_of};
 ghost use Rattle.gft_book.specs.Calls.{IsOutside, as_stopped, cause_of_keep, more_bytes, one_eod, with_total};
-ghost use Rattle.gft_book.specs.Live.{BlockIn, EodIn, IsLaneOf, IsLive, IsPassOf, Learns, LearnsCount};
-ghost use Rattle.gft_book.specs.Live.{SamePass, TotalIn};
+ghost use Rattle.gft_book.specs.Live.{BlockIn, EodIn, IsLaneOf, IsLive, IsPassOf, KeepsTotal, Learns};
+ghost use Rattle.gft_book.specs.Live.{LearnsCount, SamePass, TotalIn};
 
 use crate::book::Book;
 use crate::cause::Stop;
@@ -41,19 +41,20 @@ pub type Shared<D, O, N> = Mutex<Live<D, O, N>>;
 
 impl<D: Drive + Drop, O: Origin, N: Run> Model for Live<D, O, N> {
     ghost use Rattle.gft_book.specs.Book.{Seen, book_of};
-    ghost use Rattle.gft_book.specs.Live.{IsLive};
+    ghost use Rattle.gft_book.specs.Live.{IsLive, KeepsTotal};
 
     ghost Value = { Seen D };
 
     ghost view = { λ l. l.book };
 
-    ghost invariant = { λ l. IsLive N.start (book_of D.state l.book) };
+    ghost invariant = { λ l. IsLive N.start (book_of D.state l.book) × KeepsTotal N.start l.book.stage };
 }
 
 impl<D: Drive + Drop, O: Origin, N: Run> Live<D, O, N> {
     /// A Book for the lock of its transfer.
     pub fn new(book: Book<D, O>) -> Live<D, O, N>
         requires live { IsLive N.start (book_of D.state book) }
+        requires total { KeepsTotal N.start book.stage }
         ensures book { result ≡ book }
     {
         Live {
@@ -66,6 +67,7 @@ impl<D: Drive + Drop, O: Origin, N: Run> Live<D, O, N> {
     pub fn into_book(self) -> Book<D, O>
         ensures book { result ≡ self }
         ensures live { IsLive N.start (book_of D.state result) }
+        ensures total { KeepsTotal N.start result.stage }
     {
         self.book
     }

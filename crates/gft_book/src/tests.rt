@@ -2,7 +2,7 @@ ghost use Rattle.std.specs.Prelude.{◌≡◌, IfOk};
 ghost use Rattle.gft_book.specs.Begin.{NamesSome};
 ghost use Rattle.gft_book.specs.Book.{HasAllPasses, IsLanePass, IsStoring, Moving, book_of};
 ghost use Rattle.gft_book.specs.Calls.{SameTransfer};
-ghost use Rattle.gft_book.specs.Live.{IsLaneOf, IsLive, SamePass};
+ghost use Rattle.gft_book.specs.Live.{IsLaneOf, IsLive, KeepsTotal, SamePass};
 ghost use Rattle.gft_book.specs.declared.transfer.Stage.TheVariants.{Rest};
 
 use super::*;
@@ -519,6 +519,7 @@ fn lend<D: Drive + Drop + Send, N: Run + Send + Sync, R: Threads + Wait + Sync>(
     pass: &mut Pass,
 ) -> (Book<D, Unknown>, [bool; 7])
     requires live { IsLive N.start (book_of D.state book) }
+    requires total { KeepsTotal N.start book.stage }
     requires pass { IsLaneOf N.start pass.old }
 {
     let shared = Mutex::new(Live::<D, Unknown, N>::new(book));

@@ -2,12 +2,16 @@ use Rattle.std.proofs.Common.{arith}
 use Rattle.atomic_table.proofs.Lists.{at_index}
 use Rattle.gft_book.specs.Book.{book_of}
 use Rattle.gft_book.proofs.LiveLemmas.{IsLaneOf-lane, IsLive-running}
+use Rattle.gft_book.proofs.TotalLemmas.{KeepsTotal-start}
 use Rattle.gft_book.proofs.PassesLemmas.{HasAllPasses-lane}
 use Rattle.gft_book.proofs.tests.lend_first.Goals as goal
 
 pub lend-requires-clause-live : goal.lend-requires-clause-live
 lend-requires-clause-live g c κs within =
     IsLive-running _ (book_of g.D.Drive.state c.args.book) c.facts.ensures (c.running.ensures.running.0 c.if-running.true)
+
+pub lend-requires-clause-total : goal.lend-requires-clause-total
+lend-requires-clause-total g c κs within = let book = book_of g.D.Drive.state c.args.book in KeepsTotal-start book book.stage book.stage
 
 pub lend-requires-clause-pass : goal.lend-requires-clause-pass
 lend-requires-clause-pass g c κs within =

@@ -1,9 +1,13 @@
 use Rattle.gft_book.specs.Book.{book_of}
 use Rattle.gft_book.proofs.LiveLemmas.{IsLive-carries_on, learns_eod}
+use Rattle.gft_book.proofs.TotalLemmas.{total_eod}
 use Rattle.gft_book.proofs.live.Live.eod.Goals as goal
 
 pub invariant_of-self : goal.invariant_of-self
-invariant_of-self g c = IsLive-carries_on g.N.Run.start _ _ c.facts.ensures.keep c.self.invariant c.eod-answer.ensures.calls_on.goes_on
+invariant_of-self g c = (
+  IsLive-carries_on g.N.Run.start _ _ c.facts.ensures.keep c.self.invariant.0 c.eod-answer.ensures.calls_on.goes_on,
+  total_eod g.N.Run.start c.eod-answer.result c.self.inside.book.stage c.eod-answer.new.self.stage c.args.pass.now c.eod-answer.new.pass c.eod-answer.ensures.taken c.eod-answer.ensures.stopped c.self.invariant.1,
+)
 
 pub returns-clause-stopped : goal.returns-clause-stopped
 returns-clause-stopped g c =
