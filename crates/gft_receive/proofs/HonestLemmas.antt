@@ -8,17 +8,17 @@ use mathlib.Core.Logic.{dite}
 use native.Mathlib.Decide.{ℕ_discrete}
 use Rattle.gft_eod.specs.declared.TheConstants.{MAX_EODS}
 use Rattle.gft_range.specs.declared.Range.{Range}
-use Rattle.gft_eblock.specs.Words.{Arrival, At, Bad, Eod, Eof, data_at}
+use Rattle.gft_eblock.specs.Words.{Arrival, At, Bad, Eod, Eof, data_at, totals}
 use Rattle.gft_drive.specs.Words.{Orders, Sent, sum_below, total_of}
 use Rattle.gft_core.specs.declared.event.CoreEvent.{CoreEvent}
 use Rattle.gft_core.specs.declared.event.CoreEvent.TheVariants as event
 use Rattle.gft_core.specs.Words.{IsInOrder, byte_at, lane_eods, lane_offsets}
-use Rattle.gft_outside.specs.Words.{IsTruthful, arrival_event, arrival_events}
+use Rattle.gft_outside.specs.Words.{AllAre, IsTruthful, arrival_event, arrival_events}
 use Rattle.gft_pass.specs.declared.Numbers.{Numbers}
 use Rattle.gft_pass.specs.Words.{Lane, nothing}
-use Rattle.gft_book.specs.Words.{BlockIn, IsOfSource, Start, left_out, more_bytes, one_eod, with_total}
+use Rattle.gft_book.specs.Words.{BlockIn, EodIn, IsOfSource, Start, TotalIn, left_out, more_bytes, one_eod, with_total}
 use Rattle.gft_receive.specs.Booking.{numbers_after}
-use Rattle.gft_receive.specs.Honest.{FollowsOrder, IsHonestFor, MayBring}
+use Rattle.gft_receive.specs.Honest.{AreOfSource, FollowsOrder, IsHonestFor, MayBring}
 
 pub some_map : {A : Type 0} (o : Option A) (P Q : A → Type 0) → ((x : A) → P x → Q x) → IfSome o P → IfSome o Q
 some_map None P Q f h = h
@@ -52,13 +52,33 @@ IsTruthful-rest source (Eof total ∷ a) b h = IsTruthful-rest source a b h
 IsTruthful-rest source (Eod ∷ a) b h = IsTruthful-rest source a b h
 IsTruthful-rest source (Bad refusal ∷ a) b h = IsTruthful-rest source a b h
 
+totals-front : (total : ℕ) (a b : List Arrival) → AllAre total (totals (a ++ b)) → AllAre total (totals a)
+totals-front total [] b h = tt
+totals-front total (At offset value ∷ a) b h = totals-front total a b h
+totals-front total (Eof t ∷ a) b h = (h.0, totals-front total a b h.1)
+totals-front total (Eod ∷ a) b h = totals-front total a b h
+totals-front total (Bad refusal ∷ a) b h = totals-front total a b h
+
+totals-rest : (total : ℕ) (a b : List Arrival) → AllAre total (totals (a ++ b)) → AllAre total (totals b)
+totals-rest total [] b h = h
+totals-rest total (At offset value ∷ a) b h = totals-rest total a b h
+totals-rest total (Eof t ∷ a) b h = totals-rest total a b h.1
+totals-rest total (Eod ∷ a) b h = totals-rest total a b h
+totals-rest total (Bad refusal ∷ a) b h = totals-rest total a b h
+
 pub MayBring-front : (sent : List ℕ → Option Sent) (start : Start) (lane : ℕ) (n : Numbers) (a b : List Arrival) → MayBring sent start lane n (a ++ b) → MayBring sent start lane n a
-MayBring-front sent start lane n a b h = some_map (sent start.label) _ _
-    (λ s one. (IsTruthful-front s.source a b one.0, some_map (left_out start.how) _ _ (λ rest follows. (follows.0, FollowsOrder-front (s.orders rest) lane n a b follows.1)) one.1)) h
+MayBring-front sent start lane n a b h = (
+  some_map (sent start.label) _ _
+      (λ s one. (IsTruthful-front s.source a b one.0, some_map (left_out start.how) _ _ (λ rest follows. (follows.0, FollowsOrder-front (s.orders rest) lane n a b follows.1)) one.1)) h.0,
+  some_map start.total _ _ (λ total one. totals-front total a b one) h.1,
+)
 
 pub MayBring-rest : (sent : List ℕ → Option Sent) (start : Start) (lane : ℕ) (n : Numbers) (a b : List Arrival) → MayBring sent start lane n (a ++ b) → MayBring sent start lane (numbers_after a n) b
-MayBring-rest sent start lane n a b h = some_map (sent start.label) _ _
-    (λ s one. (IsTruthful-rest s.source a b one.0, some_map (left_out start.how) _ _ (λ rest follows. (follows.0, FollowsOrder-rest (s.orders rest) lane n a b follows.1)) one.1)) h
+MayBring-rest sent start lane n a b h = (
+  some_map (sent start.label) _ _
+      (λ s one. (IsTruthful-rest s.source a b one.0, some_map (left_out start.how) _ _ (λ rest follows. (follows.0, FollowsOrder-rest (s.orders rest) lane n a b follows.1)) one.1)) h.0,
+  some_map start.total _ _ (λ total one. totals-rest total a b one) h.1,
+)
 
 -- ---- an honest lane goes by its plan
 
@@ -128,9 +148,9 @@ few_eods orders lane no_more most = elim (cases_lt lane orders.lanes) [
   | inr outside ↦ let h = no_more lane outside in omega (arith, h)
 ]
 
--- what an honest lane brings may be booked
-pub honest_may : (sent : List ℕ → Option Sent) (start : Start) (lane : ℕ) (list : List Arrival) (s : Sent) → sent start.label ≡ Some s → IsHonestFor s (left_out start.how) lane list → MayBring sent start lane nothing list
-honest_may sent start lane list s is honest =
+-- what an honest lane brings is of the source
+pub honest_source : (sent : List ℕ → Option Sent) (start : Start) (lane : ℕ) (list : List Arrival) (s : Sent) → sent start.label ≡ Some s → IsHonestFor s (left_out start.how) lane list → AreOfSource sent start lane nothing list
+honest_source sent start lane list s is honest =
     subst (λ (o : Option Sent). IfSome o (λ t. IsTruthful t.source list × IfSome (left_out start.how) (λ rest. (length ((t.orders rest).order lane) < 2 ^ 64) × FollowsOrder (t.orders rest) lane nothing list))) (sym is) (cases (left_out start.how) honest)
   where
     cases : (rest : Option (List Range)) → IsHonestFor s rest lane list → IsTruthful s.source list × IfSome rest (λ r. (length ((s.orders r).order lane) < 2 ^ 64) × FollowsOrder (s.orders r) lane nothing list)
@@ -165,4 +185,15 @@ next_piece orders lane short n offset (b ∷ bs) follows (suc k) lt =
 
 pub block_in : (sent : List ℕ → Option Sent) (start : Start) (pass : Lane) (offset : ℕ) (bytes : List ℕ) → MayBring sent start pass.lane pass.count (data_at offset bytes) → BlockIn sent start pass offset bytes
 block_in sent start pass offset bytes h = some_map (sent start.label) _ _
-    (λ s one. (of_source s.source offset bytes one.0, some_map (left_out start.how) _ _ (λ rest follows. next_piece (s.orders rest) pass.lane follows.0 pass.count offset bytes follows.1) one.1)) h
+    (λ s one. (of_source s.source offset bytes one.0, some_map (left_out start.how) _ _ (λ rest follows. next_piece (s.orders rest) pass.lane follows.0 pass.count offset bytes follows.1) one.1)) h.0
+
+-- ---- an EOF, and an EOD
+
+pub total_in : (sent : List ℕ → Option Sent) (start : Start) (pass : Lane) (total : ℕ) → MayBring sent start pass.lane pass.count (Eof total ∷ []) → TotalIn sent start total
+total_in sent start pass total h = (
+  some_map start.total _ _ (λ known one. one.0) h.1,
+  some_map (sent start.label) _ _ (λ s one. some_map (left_out start.how) _ _ (λ rest follows. follows.1.0) one.1) h.0,
+)
+
+pub eod_in : (sent : List ℕ → Option Sent) (start : Start) (pass : Lane) → MayBring sent start pass.lane pass.count (Eod ∷ []) → EodIn sent start pass
+eod_in sent start pass h = some_map (sent start.label) _ _ (λ s one. some_map (left_out start.how) _ _ (λ rest follows. follows.1.0) one.1) h.0

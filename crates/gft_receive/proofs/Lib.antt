@@ -10,7 +10,11 @@ mod ListLemmas
 mod RunLemmas
 mod TallyLemmas
 mod WholeLemmas
+mod EachLemmas
 mod CompleteLemmas
+mod BehindLemmas
+mod KnownLemmas
+mod PartLemmas
 mod BegunLemmas
 -- what the proofs of other crates may cite
 pub mod Lemmas

@@ -1,26 +1,27 @@
 -- A mover, over all its turns.
-use Rattle.std.proofs.Common.{◌≡◌, ℕ, zero, suc, ◌<◌, ◌≤◌, List, [], ◌∷◌, ◌++◌, length, map, reverse, take, Some, None, true, refl, sym, ap, ◌∙◌, subst, ⊎_elim, inl, inr, arith}
-use Rattle.std.specs.Prelude.{Option, Result, Ok, Err, IfSome}
+use Rattle.std.proofs.Common.{◌≡◌, ◌⊎◌, ℕ, zero, suc, ◌<◌, ◌≤◌, List, [], ◌∷◌, ◌++◌, length, map, reverse, take, Some, None, true, false, refl, sym, ap, ◌∙◌, subst, ⊎_elim, inl, inr, arith}
+use Rattle.std.specs.Prelude.{Option, Result, Ok, Err, IfSome, IsSome}
 use Rattle.std.proofs.lemmas.List.{append_assoc, append-nil, reverse-append, reverse-reverse, take-append-le}
 use Rattle.gft_base.specs.Words.{Rose}
-use Rattle.gft_eblock.specs.Words.{Arrival}
+use Rattle.gft_eblock.specs.Words.{Arrival, totals}
 use Rattle.gft_drive.specs.Words.{Sent}
-use Rattle.gft_outside.specs.Words.{AreInTurn, Came, Channels, Ended, Gives, LaneInput, LaneState, Loses, Opened, Silence, channels_after, gained, is_live, lane_arrivals, no_channels, stream}
+use Rattle.gft_outside.specs.Words.{AllAre, AreInTurn, Came, Channels, Ended, Gives, LaneInput, LaneState, Loses, Opened, Silence, channels_after, gained, is_live, lane_arrivals, no_channels, stream}
 use Rattle.gft_outside.proofs.Lemmas.{channels_after-append, cuts, gives_more, gives_none, in_turn-older}
 use Rattle.gft_pass.specs.declared.Cause.{Cause}
 use Rattle.gft_pass.specs.declared.Numbers.{Numbers}
 use Rattle.gft_pass.specs.Words.{Lane, nothing}
-use Rattle.gft_book.specs.Words.{Learns, SamePass, Start, as_stopped, with_cause}
+use Rattle.gft_book.specs.Words.{Learns, SamePass, Start, as_stopped, left_out, with_cause}
 use Rattle.gft_receive.specs.declared.mover.Mover.{Mover}
 use Rattle.gft_receive.specs.declared.halt.Halt.{Halt}
 use Rattle.gft_receive.specs.declared.halt.Halt.TheVariants.{Done, Stopped, Failed}
 use Rattle.gft_receive.specs.Booking.{IsBooksCause, numbers_after}
 use Rattle.gft_receive.specs.Causes.{first_cause}
-use Rattle.gft_receive.specs.Honest.{IsHonestLeft, MayBring}
+use Rattle.gft_receive.specs.Honest.{AreOfSource, AreOfTotal, IsHonestFor, IsHonestLeft, MayBring, TellsTotal}
 use Rattle.gft_receive.specs.Moved.{Bounds, MoverEnds, GaveAll, IsLanesCause, IsMoved}
 use Rattle.gft_receive.specs.Turns.{Awaits, FeedsHonest, HasMoved, StandsBehind, TellsHonest, TurnEnds, Turned, TurnedBy, bounds_of}
 use Rattle.gft_receive.proofs.BookingLemmas.{numbers_after-append}
-use Rattle.gft_receive.proofs.HonestLemmas.{MayBring-front, MayBring-rest, honest_may, some_map}
+use Rattle.gft_receive.proofs.TableLemmas.{no_both}
+use Rattle.gft_receive.proofs.HonestLemmas.{MayBring-front, MayBring-rest, honest_source}
 
 -- ---- one turn
 
@@ -75,7 +76,7 @@ piece_live channel (b ∷ bs) before some turn =
     (in_turn-older (reverse (map (λ value. Came channel value) bs)) (Came channel b ∷ []) before (subst (λ (l : List LaneInput). AreInTurn l before) (reverse-append (Came channel b ∷ []) (map (λ value. Came channel value) bs)) turn)).1
 
 -- a lane brings at least what its older inputs did
-arrivals_more : (shift : ℕ) (newer older : List LaneInput) → (more : List Arrival) × (lane_arrivals shift (newer ++ older) ≡ lane_arrivals shift older ++ more)
+pub arrivals_more : (shift : ℕ) (newer older : List LaneInput) → (more : List Arrival) × (lane_arrivals shift (newer ++ older) ≡ lane_arrivals shift older ++ more)
 arrivals_more shift [] older = ([], sym (append-nil (lane_arrivals shift older)))
 arrivals_more shift (Opened n ∷ newer) older = arrivals_more shift newer older
 arrivals_more shift (Ended n ∷ newer) older = arrivals_more shift newer older
@@ -88,6 +89,14 @@ arrivals_more shift (Came n value ∷ newer) older =
 some_bind : {A : Type 0} (o : Option A) (P Q : A → Type 0) → ((x : A) → o ≡ Some x → P x → IfSome o Q) → IfSome o P → IfSome o Q
 some_bind None P Q f h = tt
 some_bind (Some x) P Q f h = f x refl h
+
+some_if : {A : Type 0} (o : Option A) (Q : A → Type 0) → (IsSome o → IfSome o Q) → IfSome o Q
+some_if None Q f = tt
+some_if (Some x) Q f = f refl
+
+-- what has to be shown only where there is a source, or a known total
+may_if : (sent : List ℕ → Option Sent) (start : Start) (lane : ℕ) (n : Numbers) (list : List Arrival) → (IsSome (sent start.label) ⊎ IsSome start.total → MayBring sent start lane n list) → MayBring sent start lane n list
+may_if sent start lane n list f = (some_if (sent start.label) _ (λ some. (f (inl some)).0), some_if start.total _ (λ some. (f (inr some)).1))
 
 same_list : {A : Type 0} (a b : List A) → Some a ≡ Some b → a ≡ b
 same_list a b e = cc
@@ -106,10 +115,10 @@ same_all given later left inputs is =
     ∙ append_assoc (reverse later) given inputs
 
 pub tells_on : (sent : List ℕ → Option Sent) (start : Start) (shift lane : ℕ) (inputs given : List LaneInput) (old new : LaneState) → Gives given old new → TellsHonest sent start shift lane inputs old → TellsHonest sent start shift lane (given ++ inputs) new
-tells_on sent start shift lane inputs given old new gives h = some_map (sent start.label) _ _
-    (λ s told.
+tells_on sent start shift lane inputs given old new gives h asked =
+    let told = h asked in
     let later = left_now old.left new.left given told.0 told.1 gives.left in
-    (later.0, later.1, subst (λ (l : List LaneInput). MayBring sent start lane nothing (lane_arrivals shift l)) (same_all given later.0 told.0 inputs later.2) told.2)) h
+    (later.0, later.1, subst (λ (l : List LaneInput). MayBring sent start lane nothing (lane_arrivals shift l)) (same_all given later.0 told.0 inputs later.2) told.2)
 
 -- what a lane that is honest gives next may be booked
 pub next_honest : (sent : List ℕ → Option Sent) (start : Start) (state new : LaneState) (m : Mover) (pass : Lane) (channel : ℕ) (bytes : List ℕ) → Awaits sent start state m pass → Gives (reverse (map (λ value. Came channel value) bytes)) state new → FeedsHonest sent start m pass channel bytes
@@ -123,21 +132,51 @@ next_honest sent start state new m pass channel bytes awaits gives =
       inputs,
       a.stands,
       subst (λ (n : Numbers). MayBring sent start pass.lane n here) (sym a.booked)
-          (some_bind (sent start.label) _ _
-          (λ s is told.
+          (may_if sent start pass.lane (numbers_after had nothing) here (λ asked.
+          let told = a.honest asked in
           let later = left_now state.left new.left given told.0 told.1 gives.left in
           let more = arrivals_more shift (reverse later.0) (given ++ inputs) in
           let all : lane_arrivals shift (reverse told.0 ++ inputs) ≡ had ++ (here ++ more.0) =
           ap (lane_arrivals shift) (same_all given later.0 told.0 inputs later.2) ∙ more.1 ∙ ap (λ (l : List Arrival). l ++ more.0) (cuts shift channel bytes inputs) ∙ append_assoc had here more.0 in
-          MayBring-front sent start pass.lane (numbers_after had nothing) here more.0 (MayBring-rest sent start pass.lane nothing had (here ++ more.0) (subst (MayBring sent start pass.lane nothing) all told.2)))
-          a.honest),
+          MayBring-front sent start pass.lane (numbers_after had nothing) here more.0 (MayBring-rest sent start pass.lane nothing had (here ++ more.0) (subst (MayBring sent start pass.lane nothing) all told.2)))),
     )
+
+-- ---- before the first turn
+
+-- a lane that tells what it has left for its source, or for a known total, tells it once
+module _ (sent : List ℕ → Option Sent) (start : Start) (shift lane : ℕ) (left : Option (List LaneInput)) (honest : IsHonestLeft sent start shift lane left) (total : TellsTotal start shift left) where
+  told_left : IsSome (sent start.label) ⊎ IsSome start.total → (inputs : List LaneInput) × (left ≡ Some inputs)
+  told_left (inl some) = by_source (sent start.label) some honest
+    where
+      by_source : (o : Option Sent) → IsSome o → IfSome o (λ s. (inputs : List LaneInput) × (left ≡ Some inputs) × IsHonestFor s (left_out start.how) lane (lane_arrivals shift (reverse inputs))) → (inputs : List LaneInput) × (left ≡ Some inputs)
+      by_source None some h = absurd (no_both false some refl)
+      by_source (Some s) some h = (h.0, h.1)
+  told_left (inr some) = by_total start.total some total
+    where
+      by_total : (o : Option ℕ) → IsSome o → IfSome o (λ n. (inputs : List LaneInput) × (left ≡ Some inputs) × AllAre n (totals (lane_arrivals shift (reverse inputs)))) → (inputs : List LaneInput) × (left ≡ Some inputs)
+      by_total None some h = absurd (no_both false some refl)
+      by_total (Some n) some h = (h.0, h.1)
+
+  left_may : (inputs : List LaneInput) → left ≡ Some inputs → MayBring sent start lane nothing (lane_arrivals shift (reverse inputs))
+  left_may inputs is = (
+    some_bind (sent start.label) _ _
+        (λ s is_s told. subst (λ (l : List LaneInput). AreOfSource sent start lane nothing (lane_arrivals shift (reverse l))) (same_list told.0 inputs (sym told.1 ∙ is)) (honest_source sent start lane (lane_arrivals shift (reverse told.0)) s is_s told.2))
+        honest,
+    some_bind start.total _ _
+        (λ n is_n told. subst (λ (l : List LaneInput). AreOfTotal start (lane_arrivals shift (reverse l))) (same_list told.0 inputs (sym told.1 ∙ is)) (subst (λ (o : Option ℕ). IfSome o (λ m. AllAre m (totals (lane_arrivals shift (reverse told.0))))) (sym is_n) told.2))
+        total,
+  )
+
+  pub tells_first : (state : LaneState) → state.left ≡ left → TellsHonest sent start shift lane [] state
+  tells_first state is asked =
+      let told = told_left asked in
+      (told.0, is ∙ told.1, subst (λ (l : List LaneInput). MayBring sent start lane nothing (lane_arrivals shift l)) (sym (append-nil (reverse told.0))) (left_may told.0 told.1))
 
 -- ---- all turns
 
 module _ (sent : List ℕ → Option Sent) (start : Start) (bounds : Bounds) (old : LaneState) (before : Lane) where
   -- before the first
-  pub moved_first : (m : Mover) → StandsBehind [] m → bounds_of m ≡ bounds → old.channels ≡ no_channels → before.count ≡ nothing → IsHonestLeft sent start bounds.shift before.lane old.left → HasMoved sent start bounds old old before m before
+  pub moved_first : (m : Mover) → StandsBehind [] m → bounds_of m ≡ bounds → old.channels ≡ no_channels → before.count ≡ nothing → IsHonestLeft sent start bounds.shift before.lane old.left × TellsTotal start bounds.shift old.left → HasMoved sent start bounds old old before m before
   moved_first m stands is channels fresh honest = record {
     inputs = [];
     gives = gives_none old;
@@ -146,16 +185,7 @@ module _ (sent : List ℕ → Option Sent) (start : Start) (bounds : Bounds) (ol
       stands = stands;
       channels = channels;
       booked = fresh;
-      honest = some_bind (sent start.label) _ _
-          (λ s is_s told.
-          let shift : m.channels.shift ≡ bounds.shift = ap (λ (b : Bounds). b.shift) is in
-          subst (λ (o : Option Sent). IfSome o (λ _. (left : List LaneInput) × (old.left ≡ Some left) × MayBring sent start before.lane nothing (lane_arrivals m.channels.shift (reverse left ++ [])))) (sym is_s) (
-            told.0,
-            told.1,
-            subst (λ (k : ℕ). MayBring sent start before.lane nothing (lane_arrivals k (reverse told.0 ++ []))) (sym shift)
-                (subst (λ (l : List LaneInput). MayBring sent start before.lane nothing (lane_arrivals bounds.shift l)) (sym (append-nil (reverse told.0))) (honest_may sent start before.lane (lane_arrivals bounds.shift (reverse told.0)) s is_s told.2)),
-          ))
-          honest;
+      honest = subst (λ (k : ℕ). TellsHonest sent start k before.lane [] old) (sym (ap (λ (b : Bounds). b.shift) is)) (tells_first sent start bounds.shift before.lane old.left honest.0 honest.1 old refl);
     };
     same = record { table = refl; lane = refl };
     bounds = is;

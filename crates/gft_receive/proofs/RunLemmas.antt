@@ -25,7 +25,7 @@ use Rattle.gft_book.specs.Words.{BookState, ComesToRest, EndsFailed, EqualsSourc
 use Rattle.gft_book.proofs.Lemmas.{HasAllPasses-lane, HasAllPasses-set, IsLaneOf-lane, in_map}
 use Rattle.gft_receive.specs.declared.limits.Limits.{Limits}
 use Rattle.gft_receive.specs.declared.transfer.LaneWork.{LaneWork}
-use Rattle.gft_receive.specs.Honest.{IsHonestLeft}
+use Rattle.gft_receive.specs.Honest.{IsHonestLeft, TellsTotal}
 use Rattle.gft_receive.specs.Moved.{IsMoved}
 use Rattle.gft_receive.specs.Transfer.{AreFresh, AreMet, AreReady, EndsBadly, EndsWell, IsLaneReady, IsWorked, MovesEach, ShowsGap, bounds_at}
 use Rattle.gft_receive.proofs.HonestLemmas.{some_map}
@@ -69,8 +69,9 @@ module _ {L : Type 0} where
         let lt = slice_get_within works k work at in
         omega (arith, lt, length-append (map pass_of works) (teller ∷ []), length-map works pass_of)
 
-    pub all_ready : (state : L → LaneState) (sent : List ℕ → Option Sent) (limits : Limits) (book : BookState) → book.stage ≡ stage → AreFresh (map pass_of works ++ teller ∷ []) → AreReady state sent (start_now book) limits.shift (map lane_of works) → limits.shift ≤ LIMIT → All (IsLaneReady state sent (start_now book) limits) works
-    all_ready state sent limits book is fresh ready shift k d lt =
+    pub all_ready : (state : L → LaneState) (sent : List ℕ → Option Sent) (limits : Limits) (book : BookState) (total : Option ℕ) → book.stage ≡ stage → AreFresh (map pass_of works ++ teller ∷ []) → AreReady state sent (start_now book) limits.shift (map lane_of works) → limits.shift ≤ LIMIT
+        → ((k : ℕ) (work : LaneWork L) → slice_get works k ≡ Some work → TellsTotal (record (start_now book) { total = total }) limits.shift (state work.lane).left) → All (IsLaneReady state sent (record (start_now book) { total = total }) limits) works
+    all_ready state sent limits book total is fresh ready shift tells k d lt =
         let work = slice_index_or works k d in
         let at = slice_get-get_or works k d lt in
         let here = at_map lane_of works k work at in
@@ -80,6 +81,7 @@ module _ {L : Type 0} where
           fresh = fresh k work.pass (its_pass k work at);
           shift = shift;
           honest = subst (λ (n : ℕ). IsHonestLeft sent (start_now book) limits.shift n (state work.lane).left) (sym (its_lane k work at)) (ready.honest k work.lane here);
+          total = tells k work at;
         }
 
     -- ---- when they have ended

@@ -109,16 +109,16 @@ keeper (n ∷ counts) cause is = cases n.cause refl is (keeper counts cause)
     cases None here is' later = let k = later is' in record { lane = suc k.lane; count = k.count; at = k.at; kept = k.kept }
 
 -- the lane that announces a total
-pub record Announces (lists : List (List LaneInput)) : Type 0 where
+pub record Announces (shift : ℕ) (lists : List (List LaneInput)) : Type 0 where
   pub lane : ℕ
   pub list : List LaneInput
   pub at : slice_get lists lane ≡ Some list
-  pub told : IsSome (first_of (totals (lane_arrivals 0 list)))
+  pub told : IsSome (first_of (totals (lane_arrivals shift list)))
 
-pub announcer : (lists : List (List LaneInput)) → IsSome (first_of (all_totals 0 lists)) → Announces lists
-announcer [] told = absurd (no_both false told refl)
-announcer (list ∷ lists) told = cases (totals (lane_arrivals 0 list)) refl told (announcer lists)
+pub announcer : (shift : ℕ) (lists : List (List LaneInput)) → IsSome (first_of (all_totals shift lists)) → Announces shift lists
+announcer shift [] told = absurd (no_both false told refl)
+announcer shift (list ∷ lists) told = cases (totals (lane_arrivals shift list)) refl told (announcer shift lists)
   where
-    cases : (ts : List ℕ) → totals (lane_arrivals 0 list) ≡ ts → IsSome (first_of (ts ++ all_totals 0 lists)) → (IsSome (first_of (all_totals 0 lists)) → Announces lists) → Announces (list ∷ lists)
+    cases : (ts : List ℕ) → totals (lane_arrivals shift list) ≡ ts → IsSome (first_of (ts ++ all_totals shift lists)) → (IsSome (first_of (all_totals shift lists)) → Announces shift lists) → Announces shift (list ∷ lists)
     cases (t ∷ ts) is told' later = record { lane = 0; list = list; at = refl; told = ap (λ (l : List ℕ). is_some (first_of l)) is }
     cases [] is told' later = let a = later told' in record { lane = suc a.lane; list = a.list; at = a.at; told = a.told }

@@ -145,8 +145,8 @@ gone_on channel (Came n value ∷ newer) older turn gone =
 -- ---- no cause
 
 -- all that a lane gives, and what it brings
-module _ (whole : List LaneInput) (smooth : IsSmooth whole) (ends : EndsItsChannels 0 whole) (sound : HasNoBad (lane_arrivals 0 whole)) (turn : AreInTurn whole no_channels) where
-  pub shows_none : (lane : ℕ) (newer older : List LaneInput) → whole ≡ newer ++ older → first_cause lane 0 older ≡ None
+module _ (shift : ℕ) (whole : List LaneInput) (smooth : IsSmooth whole) (ends : EndsItsChannels shift whole) (sound : HasNoBad (lane_arrivals shift whole)) (turn : AreInTurn whole no_channels) where
+  pub shows_none : (lane : ℕ) (newer older : List LaneInput) → whole ≡ newer ++ older → first_cause lane shift older ≡ None
   shows_none lane newer [] is = refl
   shows_none lane newer (Silence ∷ older) is = absurd (smooth-older newer (Silence ∷ older) (subst IsSmooth is smooth)).1
   shows_none lane newer (Opened n ∷ older) is =
@@ -155,25 +155,25 @@ module _ (whole : List LaneInput) (smooth : IsSmooth whole) (ends : EndsItsChann
       let s = smooth-older newer (Opened n ∷ older) (subst IsSmooth is smooth) in
       let few = s.2 in
       let below = s.3 in
-      first-none lane 0 (Opened n) older rest (too_many-none lane before (omega (arith, few, length-append before.live (n ∷ []))) (omega (arith, below)))
+      first-none lane shift (Opened n) older rest (too_many-none lane before (omega (arith, few, length-append before.live (n ∷ []))) (omega (arith, below)))
   shows_none lane newer (Came n value ∷ older) is =
       let rest = shows_none lane (newer ++ Came n value ∷ []) older (is ∙ sym (append_assoc newer (Came n value ∷ []) older)) in
       let s = smooth-older newer (Came n value ∷ older) (subst IsSmooth is smooth) in
       let short = s.4 in
-      let good = no_bad-stream 0 n (Came n value ∷ older) (no_bad-older 0 newer (Came n value ∷ older) (subst (λ (l : List LaneInput). HasNoBad (lane_arrivals 0 l)) is sound)) in
-      piece-none lane 0 n (value ∷ []) older rest (omega (arith, short))
-      (ap (λ (l : List ℕ). refused_in (arrivals 0 l)) (sym (stream_here n value older)) ∙ refused_in-none (arrivals 0 (stream n (Came n value ∷ older))) good)
+      let good = no_bad-stream shift n (Came n value ∷ older) (no_bad-older shift newer (Came n value ∷ older) (subst (λ (l : List LaneInput). HasNoBad (lane_arrivals shift l)) is sound)) in
+      piece-none lane shift n (value ∷ []) older rest (omega (arith, short))
+      (ap (λ (l : List ℕ). refused_in (arrivals shift l)) (sym (stream_here n value older)) ∙ refused_in-none (arrivals shift (stream n (Came n value ∷ older))) good)
   shows_none lane newer (Ended n ∷ older) is =
       let rest = shows_none lane (newer ++ Ended n ∷ []) older (is ∙ sym (append_assoc newer (Ended n ∷ []) older)) in
       let turn' : AreInTurn (newer ++ Ended n ∷ older) no_channels = subst (λ (l : List LaneInput). AreInTurn l no_channels) is turn in
       let same : stream n whole ≡ stream n older = ap (stream n) is ∙ (gone_on n newer (Ended n ∷ older) turn' (gone_now n older (in_turn-older newer (Ended n ∷ older) no_channels turn'))).1 in
-      first-none lane 0 (Ended n) older rest (lost-none lane 0 n (stream n older) (told (stream n older) same))
+      first-none lane shift (Ended n) older rest (lost-none lane shift n (stream n older) (told (stream n older) same))
     where
-      told : (l : List ℕ) → stream n whole ≡ l → (length l ≡ 0) ⊎ (0 < eods (arrivals 0 l))
+      told : (l : List ℕ) → stream n whole ≡ l → (length l ≡ 0) ⊎ (0 < eods (arrivals shift l))
       told [] same = inl refl
       told (b ∷ bs) same =
           let one = ends n (subst (λ (l : List ℕ). 0 < length l) (sym same) (omega arith)) in
-          let mine : eods (arrivals 0 (b ∷ bs)) ≡ 1 = subst (λ (l : List ℕ). eods (arrivals 0 l) ≡ 1) same one in
+          let mine : eods (arrivals shift (b ∷ bs)) ≡ 1 = subst (λ (l : List ℕ). eods (arrivals shift l) ≡ 1) same one in
           inr (omega (arith, mine))
 
   -- and it is never silent

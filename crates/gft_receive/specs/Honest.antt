@@ -2,9 +2,9 @@
 use Rattle.std.specs.Prelude.{◌≡◌, ℕ, ◌+◌, ◌<◌, ◌^◌, List, [], ◌∷◌, length, reverse, slice_get}
 use Rattle.std.specs.Prelude.{Option, Some, None, IfSome}
 use Rattle.gft_range.specs.declared.Range.{Range}
-use Rattle.gft_eblock.specs.Words.{Arrival, At, Bad, Eod, Eof}
+use Rattle.gft_eblock.specs.Words.{Arrival, At, Bad, Eod, Eof, totals}
 use Rattle.gft_drive.specs.Words.{Orders, Sent, total_of}
-use Rattle.gft_outside.specs.Words.{IsHonestLane, IsTruthful, LaneInput, lane_arrivals}
+use Rattle.gft_outside.specs.Words.{AllAre, IsHonestLane, IsTruthful, LaneInput, lane_arrivals}
 use Rattle.gft_pass.specs.declared.Numbers.{Numbers}
 use Rattle.gft_book.specs.Words.{Start, left_out, more_bytes, one_eod, with_total}
 
@@ -21,11 +21,18 @@ FollowsOrder orders lane n (Eod ∷ list) =
 FollowsOrder orders lane n (Bad refusal ∷ list) = FollowsOrder orders lane n list
 
 -- if the transfer's label has a source, they bring its bytes, for a STOR in the lane's order
-abbrev pub MayBring : (List ℕ → Option Sent) → Start → ℕ → Numbers → List Arrival → Type 0
-MayBring sent start lane n list =
+abbrev pub AreOfSource : (List ℕ → Option Sent) → Start → ℕ → Numbers → List Arrival → Type 0
+AreOfSource sent start lane n list =
     IfSome (sent start.label) (λ s. IsTruthful s.source list
     × IfSome (left_out start.how) (λ rest. (length ((s.orders rest).order lane) < 2 ^ 64)
     × FollowsOrder (s.orders rest) lane n list))
+
+-- if the transfer's total is known, they announce no other
+abbrev pub AreOfTotal : Start → List Arrival → Type 0
+AreOfTotal start list = IfSome start.total (λ total. AllAre total (totals list))
+
+abbrev pub MayBring : (List ℕ → Option Sent) → Start → ℕ → Numbers → List Arrival → Type 0
+MayBring sent start lane n list = AreOfSource sent start lane n list × AreOfTotal start list
 
 -- what a lane brings is honest for a source: for a STOR by the plan of its transfer, else byte by byte
 abbrev pub IsHonestFor : Sent → Option (List Range) → ℕ → List Arrival → Type 0
@@ -38,3 +45,9 @@ abbrev pub IsHonestLeft : (List ℕ → Option Sent) → Start → ℕ → ℕ �
 IsHonestLeft sent start shift lane left =
     IfSome (sent start.label) (λ s. (inputs : List LaneInput) × (left ≡ Some inputs)
     × IsHonestFor s (left_out start.how) lane (lane_arrivals shift (reverse inputs)))
+
+-- if the transfer's total is known, the lane tells what it has left, and announces no other
+abbrev pub TellsTotal : Start → ℕ → Option (List LaneInput) → Type 0
+TellsTotal start shift left =
+    IfSome start.total (λ total. (inputs : List LaneInput) × (left ≡ Some inputs)
+    × AllAre total (totals (lane_arrivals shift (reverse inputs))))

@@ -2,6 +2,7 @@ pub mod Booking
 pub mod Causes
 pub mod Complete
 pub mod Honest
+pub mod Known
 pub mod Moved
 pub mod Table
 pub mod Transfer

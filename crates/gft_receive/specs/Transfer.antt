@@ -15,7 +15,7 @@ use Rattle.gft_pass.specs.Words.{IsAt, Lane, causes, nothing}
 use Rattle.gft_book.specs.Words.{IsKeptEnd, IsLaneOf, SamePass, SettledFile, Start, left_out}
 use Rattle.gft_receive.specs.declared.limits.Limits.{Limits}
 use Rattle.gft_receive.specs.declared.transfer.LaneWork.{LaneWork}
-use Rattle.gft_receive.specs.Honest.{IsHonestLeft}
+use Rattle.gft_receive.specs.Honest.{IsHonestLeft, TellsTotal}
 use Rattle.gft_receive.specs.Moved.{Bounds, IsMoved}
 
 abbrev pub bounds_at : Limits → ℕ → Bounds
@@ -29,6 +29,7 @@ pub record IsLaneReady {L : Type 0} (state : L → LaneState) (sent : List ℕ �
   pub fresh : work.pass.count ≡ nothing
   pub shift : limits.shift ≤ LIMIT
   pub honest : IsHonestLeft sent start limits.shift work.pass.lane (state work.lane).left
+  pub total : TellsTotal start limits.shift (state work.lane).left
 
 -- and when it has ended
 pub record IsWorked {L : Type 0} (state : L → LaneState) (limits : Limits) (old new : LaneWork L)

@@ -1,6 +1,6 @@
 -- How a mover stands to what it took, and what a turn of it does.
 use Rattle.std.specs.Prelude.{◌≡◌, ◌⊎◌, ℕ, ◌+◌, ◌<◌, ◌≤◌, ◌↔◌, List, [], ◌∷◌, ◌++◌, length}
-use Rattle.std.specs.Prelude.{Option, Some, None, Result, Ok, Err, IfSome, reverse}
+use Rattle.std.specs.Prelude.{Option, Some, None, Result, Ok, Err, IsSome, reverse}
 use Rattle.gft_base.specs.Words.{Rose}
 use Rattle.gft_drive.specs.Words.{Sent}
 use Rattle.gft_eblock.specs.declared.TheConstants.{MAX_BYTES}
@@ -101,11 +101,13 @@ FeedsHonest sent start m pass channel bytes =
     (inputs : List LaneInput) × StandsBehind inputs m
     × MayBring sent start pass.lane pass.count (gained m.channels.shift (stream channel inputs) bytes)
 
--- if the transfer's label has a source, the lane tells what it has left, and all that it brings is honest
+-- if the transfer's label has a source or its total is known, the lane tells what it has left, and all that
+-- it brings may be booked
 abbrev pub TellsHonest : (List ℕ → Option Sent) → Start → ℕ → ℕ → List LaneInput → LaneState → Type 0
 TellsHonest sent start shift lane inputs state =
-    IfSome (sent start.label) (λ s. (left : List LaneInput) × (state.left ≡ Some left)
-    × MayBring sent start lane nothing (lane_arrivals shift (reverse left ++ inputs)))
+    IsSome (sent start.label) ⊎ IsSome start.total
+    → (left : List LaneInput) × (state.left ≡ Some left)
+    × MayBring sent start lane nothing (lane_arrivals shift (reverse left ++ inputs))
 
 -- a mover stands behind its lane, and all that it took is booked
 pub record AwaitsBy (sent : List ℕ → Option Sent) (start : Start) (state : LaneState) (m : Mover)

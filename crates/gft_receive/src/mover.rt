@@ -7,7 +7,7 @@ ghost use Rattle.gft_outside.specs.Words.{Came, Ended, Gives, LaneInput, Opened,
 ghost use Rattle.gft_outside.specs.Words.{is_live, no_channels};
 ghost use Rattle.gft_pass.specs.Words.{nothing};
 ghost use Rattle.gft_book.specs.Words.{IsLaneOf, SamePass};
-ghost use Rattle.gft_receive.specs.Honest.{IsHonestLeft};
+ghost use Rattle.gft_receive.specs.Honest.{IsHonestLeft, TellsTotal};
 ghost use Rattle.gft_receive.specs.Moved.{IsMoved};
 ghost use Rattle.gft_receive.specs.Table.{live_numbers};
 ghost use Rattle.gft_receive.specs.Turns.{Awaits, FeedsHonest, StandsBehind, TakesInput, Turned, TurnedBy};
@@ -206,7 +206,7 @@ pub fn receive_lane<L: Lane, D: Drive + Drop, O: Origin, N: Run, R: Wait>(
     requires fresh { pass.old.count ≡ nothing }
     requires shift { limits.now.shift ≤ LIMIT }
     requires honest { IsHonestLeft (sent_by O.source O.orders O.fit) N.start limits.now.shift pass.old.lane
-        (L.state lane.old).left }
+        (L.state lane.old).left × TellsTotal N.start limits.now.shift (L.state lane.old).left }
     ensures pass { SamePass pass.old pass.new }
     ensures moved { IsMoved
         (record { lane = pass.old.lane; shift = limits.now.shift; idle = limits.now.idle })

@@ -6,9 +6,10 @@ ghost use Rattle.gft_keep.specs.Words.{keep_of};
 ghost use Rattle.gft_pass.specs.declared.Cause.TheVariants.{Memory};
 ghost use Rattle.gft_pass.specs.Words.{nothing};
 ghost use Rattle.gft_book.specs.declared.transfer.Stage.TheVariants.{Rest};
-ghost use Rattle.gft_book.specs.Words.{EqualsSource, HasAllPasses, IsLive, IsRunning, KeptSince};
+ghost use Rattle.gft_book.specs.Words.{EqualsSource, HasAllPasses, IsLive, IsRunning, KeepsTotal};
+ghost use Rattle.gft_book.specs.Words.{KeptSince};
 ghost use Rattle.gft_book.specs.Words.{book_of, start_now};
-ghost use Rattle.gft_receive.specs.Complete.{WholeLanesEndWell};
+ghost use Rattle.gft_receive.specs.Complete.{WholeRunsEndWell};
 ghost use Rattle.gft_receive.specs.Transfer.{AreFresh, AreReady, HasRun, IsLaneReady, IsWorked, Receives};
 
 use crate::limits::Limits;
@@ -44,9 +45,11 @@ fn run_movers<
     R: Threads + Wait + Sync,
 >(rt: &R, book: Book<D, O>, works: &mut [LaneWork<L>], limits: &Limits) -> Book<D, O>
     requires live { IsLive N.start (book_of D.state book) }
+    requires total { KeepsTotal N.start book.stage }
     requires works { All (IsLaneReady L.state (sent_by O.source O.orders O.fit) N.start limits.now)
         works.old }
     ensures live { IsLive N.start (book_of D.state result) }
+    ensures total { KeepsTotal N.start result.stage }
     ensures worked { (i : ℕ) (d : _) → i < length works.old
         → IsWorked L.state limits.now (slice_index_or works.old i d) (slice_index_or works.new i d) }
 {
@@ -130,8 +133,8 @@ fn run<L: Lane + Drop, D: Drive + Drop, O: Origin + Send, R: Threads + Wait + Sy
     ensures honest { OnOk result.outcome.end (EqualsSource
         (sent_by O.source O.orders O.fit (keep_of D.state book.keep).drive.label) (book_of D.state book)
         (keep_of D.state result.book.keep)) }
-    ensures complete { WholeLanesEndWell L.state (sent_by O.source O.orders O.fit) limits.now
-        (start_now (book_of D.state book)) lanes.items result.lanes.items result.outcome.end }
+    ensures complete { WholeRunsEndWell L.state (sent_by O.source O.orders O.fit) limits.now
+        (start_now (book_of D.state book)) book.stage lanes.items result.lanes.items result.outcome.end }
     ensures told { result.outcome.told ≡ 0 }
 {
     let mut lanes = lanes;
@@ -228,8 +231,8 @@ pub fn receive<
     ensures honest { OnOk result.outcome.end (EqualsSource
         (sent_by O.source O.orders O.fit (keep_of D.state book.keep).drive.label) (book_of D.state book)
         (keep_of D.state result.book.keep)) }
-    ensures complete { WholeLanesEndWell L.state (sent_by O.source O.orders O.fit) limits.now
-        (start_now (book_of D.state book)) lanes.items result.lanes.items result.outcome.end }
+    ensures complete { WholeRunsEndWell L.state (sent_by O.source O.orders O.fit) limits.now
+        (start_now (book_of D.state book)) book.stage lanes.items result.lanes.items result.outcome.end }
     ensures told { result.outcome.told ≡ 0 }
     ensures unasked { (control.new ≡ control.old) × (lines.new ≡ lines.old) × (out.new ≡ out.old)
         × (clock.new ≡ clock.old) }
