@@ -1,4 +1,4 @@
-ghost use Rattle.std.specs.Prelude.{◌≡◌, IfOk};
+ghost use Rattle.std.specs.Prelude.{◌≡◌, IfOk, IfSome};
 ghost use Rattle.gft_book.specs.Begin.{NamesSome};
 ghost use Rattle.gft_book.specs.Book.{HasAllPasses, IsLanePass, IsStoring, Moving, book_of};
 ghost use Rattle.gft_book.specs.Calls.{SameTransfer};
@@ -491,7 +491,8 @@ fn call_locked<D: Drive + Drop, N: Run, R: Wait>(
     book: &Shared<D, Unknown, N>,
     pass: &mut Pass,
 ) -> [bool; 7]
-    requires { IsLaneOf N.start pass.old }
+    requires pass { IsLaneOf N.start pass.old }
+    requires known { IfSome N.start.total (λ known. 1 ≡ known) }
 {
     let stores = book.lock(rt).store(pass, 0, b"hello").is_ok();
     let announces = book.lock(rt).eof(pass, 1).is_ok();
@@ -521,13 +522,14 @@ fn lend<D: Drive + Drop + Send, N: Run + Send + Sync, R: Threads + Wait + Sync>(
     requires live { IsLive N.start (book_of D.state book) }
     requires total { KeepsTotal N.start book.stage }
     requires pass { IsLaneOf N.start pass.old }
+    requires known { IfSome N.start.total (λ known. 1 ≡ known) }
 {
     let shared = Mutex::new(Live::<D, Unknown, N>::new(book));
     let lock = &shared;
     let (told, ()) = thread::join(
         rt,
         move ||
-            requires { IsLaneOf N.start pass.now }
+            requires { IsLaneOf N.start pass.now × IfSome N.start.total (λ known. 1 ≡ known) }
         { call_locked(rt, lock, pass) },
         || (),
     );

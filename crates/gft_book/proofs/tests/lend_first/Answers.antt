@@ -1,6 +1,10 @@
-use Rattle.std.proofs.Common.{arith}
+use Rattle.std.proofs.Common.{◌≡◌, ℕ, arith}
+use Rattle.std.specs.Prelude.{IfSome}
 use Rattle.atomic_table.proofs.Lists.{at_index}
-use Rattle.gft_book.specs.Book.{book_of}
+use Rattle.gft_book.specs.Book.{BookState, book_of}
+use Rattle.gft_book.specs.Live.{start_at}
+use Rattle.gft_book.specs.declared.transfer.Stage.{Stage}
+use Rattle.gft_book.specs.declared.transfer.Stage.TheVariants.{Rest, Reading, Storing}
 use Rattle.gft_book.proofs.LiveLemmas.{IsLaneOf-lane, IsLive-running}
 use Rattle.gft_book.proofs.TotalLemmas.{KeepsTotal-start}
 use Rattle.gft_book.proofs.PassesLemmas.{HasAllPasses-lane}
@@ -12,6 +16,15 @@ lend-requires-clause-live g c κs within =
 
 pub lend-requires-clause-total : goal.lend-requires-clause-total
 lend-requires-clause-total g c κs within = let book = book_of g.D.Drive.state c.args.book in KeepsTotal-start book book.stage book.stage
+
+-- a lock that is made of a Book alone knows no total
+untold : (book : BookState) (stage : Stage) (P : ℕ → Type 0) → IfSome (start_at book stage).total P
+untold book Rest P = tt
+untold book (Reading readers) P = tt
+untold book (Storing transfer) P = tt
+
+pub lend-requires-clause-known : goal.lend-requires-clause-known
+lend-requires-clause-known g c κs within = untold (book_of g.D.Drive.state c.args.book) c.args.book.stage (λ known. 1 ≡ known)
 
 pub lend-requires-clause-pass : goal.lend-requires-clause-pass
 lend-requires-clause-pass g c κs within =
