@@ -1,0 +1,6 @@
+mod LawLemmas
+mod ListLemmas
+mod LaneLemmas
+mod OrderLemmas
+mod StreamLemmas
+mod SumLemmas

@@ -1,0 +1,7 @@
+//! A file that is sent arrives: what a sender puts on its data connections is what a receiver takes, with
+//! the equal file at the end.
+#![tactic(auto)]
+
+mod laws;
+
+pub use laws::sent_streams_are_honest;
