@@ -1,3 +1,4 @@
+mod DeliveryLemmas
 mod LawLemmas
 mod ListLemmas
 mod LaneLemmas

@@ -2,6 +2,8 @@
 //! the equal file at the end.
 #![tactic(auto)]
 
+mod delivering;
 mod laws;
 
+pub use delivering::deliver;
 pub use laws::sent_streams_are_honest;
