@@ -50,15 +50,17 @@ module _ {L : Type 0} (state : L → LaneState) (sent : List ℕ → Option Sent
   runs_whole : (back : List L) → NoneFailed state lanes back → RunsWhole state d.from d.rest lanes back
   runs_whole back calm = record {
     lists = d.lists;
-    many = d.left.many;
-    left = d.left.left;
-    in_turn = λ k list at.
-        let lt = slice_get_within d.lists k list at in
-        let many : length d.brings.deal ≡ length d.lists = d.brings.many in
-        let owners = there d.brings.deal k (omega (arith, lt, many)) in
-        (d.brings.lanes k owners.0 list owners.1 at).in_turn;
+    gives = record {
+      many = d.left.many;
+      left = d.left.left;
+      in_turn = λ k list at.
+          let lt = slice_get_within d.lists k list at in
+          let many : length d.brings.deal ≡ length d.lists = d.brings.many in
+          let owners = there d.brings.deal k (omega (arith, lt, many)) in
+          (d.brings.lanes k owners.0 list owners.1 at).in_turn;
+      no_fault = calm;
+    };
     whole = are_whole;
-    no_fault = calm;
   }
 
   same_source : (s : Sent) → sent start.label ≡ Some s → d.from ≡ s
