@@ -2,6 +2,13 @@
 //! extended block mode and striped data transfer).
 #![tactic(auto)]
 
+mod block;
+mod channel;
+mod lane;
+mod piece;
 mod plan;
+mod transfer;
 
+pub use lane::send_lane;
 pub use plan::SendPlan;
+pub use transfer::{Stripe, send};
