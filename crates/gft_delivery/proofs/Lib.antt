@@ -1,0 +1,7 @@
+mod DeliveryLemmas
+mod LawLemmas
+mod ListLemmas
+mod LaneLemmas
+mod OrderLemmas
+mod StreamLemmas
+mod SumLemmas

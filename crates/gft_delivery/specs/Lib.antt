@@ -1,0 +1,4 @@
+pub mod Brought
+pub mod Delivery
+pub mod Laws
+pub mod Words

@@ -1,0 +1,14 @@
+//! Sends the bytes of a region that a peer lacks, each once, on the data connection that owns it (GFD.20,
+//! extended block mode and striped data transfer).
+#![tactic(auto)]
+
+mod block;
+mod channel;
+mod lane;
+mod piece;
+mod plan;
+mod transfer;
+
+pub use lane::send_lane;
+pub use plan::SendPlan;
+pub use transfer::{Stripe, send};
