@@ -1,5 +1,5 @@
 -- Blocks of a file, piece by piece and one after another.
-use Rattle.std.proofs.Common.{◌≡◌, ℕ, ◌+◌, ◌-◌, ◌<◌, ◌≤◌, List, [], ◌∷◌, ◌++◌, length, take, drop, true, refl, sym, ap, ◌∙◌, subst, arith, inl, inr, ⊎_elim, append_assoc}
+use Rattle.std.proofs.Common.{◌≡◌, ℕ, ◌+◌, ◌-◌, ◌<◌, ◌≤◌, List, [], ◌∷◌, ◌++◌, length, take, drop, true, refl, sym, ap, ◌∙◌, subst, arith, inl, inr, append_assoc}
 use Rattle.std.specs.Prelude.{Result, Ok, Err, slice_index, slice_range}
 use Rattle.std.proofs.Math.Seq.{take-append_seam}
 use Rattle.std.proofs.lemmas.List.{append-nil, drop_all, length-take}
@@ -14,7 +14,7 @@ use Rattle.gft_pass.specs.declared.Cause.{Cause}
 use Rattle.gft_send.specs.Sending.{HasRest, IsRestOf, Sends, end_of_piece}
 use Rattle.gft_send.specs.Streams.{data_blocks, data_header}
 use Rattle.gft_send.specs.Stripes.{bytes_in}
-use Rattle.gft_send.proofs.FileLemmas.{part_none, part_same, part_split}
+use Rattle.gft_send.proofs.FileLemmas.{part_same, part_split}
 use Rattle.gft_send.proofs.SendLemmas.{sends_as, sends_none, sends_stop, sends_then}
 
 -- from this offset on

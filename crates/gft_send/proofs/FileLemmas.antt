@@ -1,9 +1,9 @@
 -- Files as lists of bytes: parts of them, files that are the same in some places, and a part written over.
-use Rattle.std.proofs.Common.{◌≡◌, ℕ, ◌+◌, ◌-◌, ◌<◌, ◌≤◌, List, [], ◌∷◌, ◌++◌, length, get_or, take, drop, min, refl, sym, ap, ◌∙◌, subst, arith, append_assoc}
+use Rattle.std.proofs.Common.{◌≡◌, ℕ, ◌+◌, ◌-◌, ◌<◌, ◌≤◌, List, [], ◌++◌, length, get_or, take, drop, min, sym, ap, ◌∙◌, arith}
 use Rattle.std.specs.Prelude.{slice_index, slice_range}
 use Rattle.std.proofs.Math.ListN.{get_or-append}
-use Rattle.std.proofs.Math.Seq.{take-add, take-append-add, take-append_seam, drop-append_seam, drop-append-add}
-use Rattle.std.proofs.lemmas.List.{append-nil, drop-drop, ext_get_or, get_or-append-add, get_or-drop, get_or-take, length-append, length-drop, length-take, length-take-le, take-append-drop, take_all}
+use Rattle.std.proofs.Math.Seq.{take-add, take-append_seam, drop-append_seam}
+use Rattle.std.proofs.lemmas.List.{drop-drop, ext_get_or, get_or-append-add, get_or-drop, get_or-take, length-append, length-drop, length-take, length-take-le}
 
 -- ---- parts
 

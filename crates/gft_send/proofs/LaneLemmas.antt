@@ -1,6 +1,6 @@
 -- One data connection after another: what a stripe has sent so far, and how it ends.
-use Rattle.std.proofs.Common.{◌≡◌, ◌≢◌, ℕ, ◌+◌, ◌-◌, ◌<◌, ◌≤◌, List, [], ◌∷◌, ◌++◌, length, get_or, set, true, refl, sym, ap, ◌∙◌, subst, arith, inl, inr, ◌⊎◌, ⊎_elim, get_or-set_same, get_or-set_other}
-use Rattle.std.specs.Prelude.{All, IfErr, Option, None, Some, Result, Ok, Err, slice_index, slice_index_or}
+use Rattle.std.proofs.Common.{◌≡◌, ◌≢◌, ℕ, ◌+◌, ◌<◌, ◌≤◌, List, [], ◌++◌, length, get_or, set, true, refl, sym, ap, ◌∙◌, subst, arith, inr, ⊎_elim, get_or-set_same, get_or-set_other}
+use Rattle.std.specs.Prelude.{All, Option, None, Some, Result, Ok, Err, slice_index, slice_index_or}
 use Rattle.std.specs.Io.KnownBytes.{Appends}
 use Rattle.std.proofs.KnownBytes.{Appends-nil}
 use Rattle.std.proofs.lemmas.Bool.{cases_eq, cases_lt}
@@ -8,7 +8,7 @@ use Rattle.std.proofs.lemmas.List.{get_or_default, length-replicate, take_all}
 use Rattle.std.proofs.Math.ListN.{replicate}
 use Rattle.gft_range.specs.declared.Range.{Range}
 use Rattle.gft_range.specs.Words.{HasOffset, InRange}
-use Rattle.gft_drive.specs.Words.{DriveState, Image, IsLawful, Unchanged, sum_below}
+use Rattle.gft_drive.specs.Words.{DriveState, Image, IsLawful, Unchanged}
 use Rattle.gft_drive.proofs.Lemmas.{Unchanged-then}
 use Rattle.gft_outside.specs.Words.{OutLaneState}
 use Rattle.gft_pass.specs.declared.Cause.{Cause}
@@ -16,7 +16,7 @@ use Rattle.gft_pass.specs.declared.Cause.TheVariants.{DriveFailed, LinkFailed, M
 use Rattle.gft_send.specs.declared.plan.SendPlan.{SendPlan}
 use Rattle.gft_send.specs.Sending.{Carries, CountsFaults, GoesOut, HasPlaces, HasRest, IsSendCause, MayHave, MustHave, Sends}
 use Rattle.gft_send.specs.Streams.{ending_of, sent_stream}
-use Rattle.gft_send.specs.Stripes.{CarriesStripe, CountsLaneFaults, IsLeftOf, SendsLane, bytes_in, channel_plan, stripe_bytes}
+use Rattle.gft_send.specs.Stripes.{IsLeftOf, SendsLane, channel_plan, stripe_bytes}
 use Rattle.gft_send.proofs.PlanLemmas.{blocks_same, in_region, plans_apart}
 use Rattle.gft_send.proofs.SendLemmas.{Unchanged-refl, cause_in, counts_then}
 

@@ -5,4 +5,5 @@ mod LaneLemmas
 mod PieceLemmas
 mod PlanLemmas
 mod SendLemmas
+mod TestLemmas
 mod TransferLemmas

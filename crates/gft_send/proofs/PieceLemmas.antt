@@ -1,13 +1,13 @@
 -- A piece of a file: it is read, and put.
-use Rattle.std.proofs.Common.{◌≡◌, ℕ, ◌+◌, ◌-◌, ◌<◌, ◌≤◌, List, [], ◌∷◌, ◌++◌, length, take, drop, min, true, refl, sym, ap, ◌∙◌, subst, arith, inl, inr, ⊎_elim, append_assoc}
-use Rattle.std.specs.Prelude.{IfErr, Option, None, Some, Result, Ok, Err, slice_index, slice_range}
+use Rattle.std.proofs.Common.{◌≡◌, ℕ, ◌+◌, ◌-◌, ◌<◌, ◌≤◌, List, ◌++◌, length, take, drop, min, true, refl, sym, ap, ◌∙◌, subst, arith, inl, inr, ⊎_elim, append_assoc}
+use Rattle.std.specs.Prelude.{Option, None, Some, Ok, Err, slice_index, slice_range}
 use Rattle.std.specs.Io.KnownBytes.{Appends}
 use Rattle.std.proofs.KnownBytes.{Appends-nil}
 use Rattle.std.proofs.lemmas.Bool.{cases_lt}
 use Rattle.std.proofs.Math.Seq.{take-append-add}
 use Rattle.std.proofs.lemmas.List.{drop-append-le, length-drop, length-take-le, take-append-le}
 use borrow.Rule.Slice.PartMut.{post_of, put_mid}
-use Rattle.gft_base.specs.Words.{HasCause, Rose}
+use Rattle.gft_base.specs.Words.{Rose}
 use Rattle.gft_range.specs.declared.Range.{Range}
 use Rattle.gft_range.specs.Words.{InRange}
 use Rattle.gft_drive.specs.Words.{DriveState, HasRead, Image, Unchanged}
@@ -15,7 +15,7 @@ use Rattle.gft_drive.specs.declared.Part.TheVariants.{Bytes}
 use Rattle.gft_outside.specs.Words.{OutLaneState}
 use Rattle.gft_pass.specs.declared.Cause.{Cause}
 use Rattle.gft_pass.specs.declared.Cause.TheVariants.{DriveFailed, Hole, LinkFailed}
-use Rattle.gft_send.specs.Sending.{Carries, CountsFaults, GoesOut, HasPlaces, IsRestOf, IsSendCause, MayHave, MustHave, Sends}
+use Rattle.gft_send.specs.Sending.{Carries, GoesOut, HasPlaces, IsRestOf, MayHave, MustHave, Sends}
 use Rattle.gft_send.proofs.FileLemmas.{over, over_high, over_long, over_low, over_part, part_split}
 use Rattle.gft_send.proofs.SendLemmas.{goes_stop}
 

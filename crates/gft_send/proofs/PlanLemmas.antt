@@ -1,14 +1,14 @@
 -- What a plan has to do with the region, and with another plan.
-use Rattle.std.proofs.Common.{◌≡◌, ℕ, ◌<◌, ◌≤◌, List, [], ◌∷◌, ◌++◌, length, refl, sym, ap, ◌∙◌, subst, arith, inl, inr}
+use Rattle.std.proofs.Common.{◌≡◌, ℕ, List, [], ◌∷◌, ◌++◌, length, refl, sym, ap, ◌∙◌, inl, inr}
 use Rattle.std.specs.Prelude.{Option, slice_index, slice_range}
 use Rattle.gft_range.specs.declared.Range.{Range}
 use Rattle.gft_range.specs.Words.{HasOffset, InRange}
 use Rattle.gft_drive.specs.Words.{Image}
 use Rattle.gft_eblock.specs.Words.{spelling}
-use Rattle.gft_layout.specs.Words.{IsAscending, IsOwner, NamesItsOffsets, Owner, owner_of}
+use Rattle.gft_layout.specs.Words.{IsAscending, NamesItsOffsets, Owner}
 use Rattle.gft_layout.proofs.Lemmas.{NamesItsOffsets-plan}
 use Rattle.gft_send.specs.declared.plan.SendPlan.{SendPlan}
-use Rattle.gft_send.specs.Sending.{HasPlaces, MustHave}
+use Rattle.gft_send.specs.Sending.{MustHave}
 use Rattle.gft_send.specs.Streams.{data_blocks, data_header}
 use Rattle.gft_send.specs.Stripes.{channel_plan}
 use Rattle.gft_send.proofs.FileLemmas.{part_same}

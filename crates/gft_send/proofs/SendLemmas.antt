@@ -1,6 +1,6 @@
 -- One step of sending after another.
-use Rattle.std.proofs.Common.{◌≡◌, ℕ, ◌+◌, ◌-◌, ◌*◌, ◌<◌, ◌≤◌, min, List, [], ◌∷◌, ◌++◌, length, take, drop, true, refl, sym, ap, ◌∙◌, subst, arith, inl, inr, ⊎_elim}
-use Rattle.std.specs.Prelude.{IfErr, Option, None, Some, Result, Ok, Err, slice_index, slice_range}
+use Rattle.std.proofs.Common.{◌≡◌, ℕ, ◌+◌, ◌*◌, ◌≤◌, min, List, [], ◌++◌, length, take, true, refl, sym, ap, ◌∙◌, subst, arith, inl, inr}
+use Rattle.std.specs.Prelude.{IfErr, Option, Result, Ok, Err, slice_index}
 use Rattle.std.specs.Io.KnownBytes.{Appends}
 use Rattle.std.proofs.KnownBytes.{Appends-nil, Appends-trans}
 use Rattle.std.proofs.Math.Seq.{take-append-add}
@@ -11,11 +11,11 @@ use Rattle.gft_drive.specs.Words.{DriveState, Image, IsLawful, Unchanged}
 use Rattle.gft_drive.proofs.Lemmas.{Unchanged-then, elapses_refl}
 use Rattle.gft_outside.specs.Words.{OutLaneState}
 use Rattle.gft_pass.specs.declared.Cause.{Cause}
-use Rattle.gft_pass.specs.declared.Cause.TheVariants.{DriveFailed, Hole, LinkFailed, Memory}
+use Rattle.gft_pass.specs.declared.Cause.TheVariants.{DriveFailed, Hole, LinkFailed}
 use Rattle.gft_eblock.specs.Words.{spelling}
 use Rattle.gft_layout.specs.declared.Shape.{Shape}
 use Rattle.gft_send.specs.Streams.{ending_of, eod_header, eof_header}
-use Rattle.gft_send.specs.Sending.{Carries, CountsFaults, GoesOut, HasPlaces, IsSendCause, MayHave, Sends}
+use Rattle.gft_send.specs.Sending.{Carries, CountsFaults, GoesOut, IsSendCause, MayHave, Sends}
 
 -- ---- what goes out
 

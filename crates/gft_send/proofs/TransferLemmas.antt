@@ -4,10 +4,15 @@ use Rattle.std.specs.Prelude.{IfOk, Result, Ok, Err, slice_index_or, sum_by}
 use Rattle.std.proofs.Math.Seq.{take-append_seam}
 use Rattle.std.proofs.lemmas.List.{drop_all, drop_more}
 use Rattle.std.proofs.lemmas.List.Sums.{sum_by-append, sum_by-drop_more}
-use Rattle.gft_drive.specs.Words.{sum_below}
+use Rattle.gft_range.specs.declared.Range.{Range}
+use Rattle.gft_drive.specs.Words.{DriveState, sum_below}
+use Rattle.gft_outside.specs.Words.{OutLaneState}
 use Rattle.gft_pass.specs.declared.Cause.{Cause}
 use Rattle.gft_send.specs.declared.transfer.Stripe.{Stripe}
-use Rattle.gft_send.specs.Transfers.{add_sent, all_sent, bytes_told}
+use Rattle.gft_send.specs.declared.plan.SendPlan.{SendPlan}
+use Rattle.gft_send.specs.Sending.{GoesOut}
+use Rattle.gft_send.specs.Streams.{sent_stream}
+use Rattle.gft_send.specs.Transfers.{CarriesFile, SendsStripe, add_sent, all_sent, bytes_told}
 
 -- ---- answers
 
@@ -84,3 +89,13 @@ module _ {D X : Type 0} where
 -- a list that is written back whole
 pub written_back : {A : Type 0} (n : ℕ) (new rest : List A) → n ≡ length new → take n (new ++ rest) ≡ new
 written_back n new rest is = ap (λ (k : ℕ). take k (new ++ rest)) is ∙ take-append_seam new rest
+
+-- each stripe's file is the one that all drives tell
+pub one_file : {D X : Type 0} (drive_state : D → DriveState) (out_state : X → OutLaneState) (plan : SendPlan) (done : List Range) (old new : List (Stripe D X))
+    → ((i : ℕ) (d : Stripe D X) → i < length old → SendsStripe drive_state out_state plan done i (slice_index_or old i d) (slice_index_or new i d)) → CarriesFile drive_state out_state plan done old new
+one_file {D} {X} drive_state out_state plan done old new sends file told i k d out lt below =
+    let carries = (sends i d lt).carries in
+    let tells = told i d lt in
+    let same : carries.file ≡ file = carries.may tells.0 tells.1 ∙ tells.2 in
+    subst (λ (f : List ℕ). GoesOut (slice_index_or new i d).sent (sent_stream f plan done i k) (out_state (slice_index_or (slice_index_or old i d).channels.items k out)) (out_state (slice_index_or (slice_index_or new i d).channels.items k out))) same
+    (carries.streams k out below)

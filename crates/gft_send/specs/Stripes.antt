@@ -1,8 +1,8 @@
 -- What a stripe sends, and what all stripes of a transfer send.
 use Rattle.std.specs.Prelude.{◌≡◌, ◌≢◌, ℕ, ◌+◌, ◌-◌, ◌<◌, true, List, [], ◌∷◌, length, slice_index_or}
-use Rattle.std.specs.Prelude.{All, IfErr, IfOk, OnOk, Option, Some, Result}
+use Rattle.std.specs.Prelude.{All, IfErr, IfOk, OnOk, Option, Result}
 use Rattle.gft_range.specs.declared.Range.{Range}
-use Rattle.gft_range.specs.Words.{HasOffset, InRange}
+use Rattle.gft_range.specs.Words.{InRange}
 use Rattle.gft_layout.specs.Words.{IsLayout, IsShape, plan_of}
 use Rattle.gft_drive.specs.Words.{DriveState, Image, Unchanged, sum_below}
 use Rattle.gft_outside.specs.Words.{OutLaneState}

@@ -1,13 +1,15 @@
 -- What all stripes of a transfer send.
-use Rattle.std.specs.Prelude.{◌≡◌, ℕ, ◌+◌, true, List, [], ◌∷◌, All, Result, Ok, Err, vec_len}
+use Rattle.std.specs.Prelude.{◌≡◌, ℕ, ◌+◌, ◌<◌, true, List, [], ◌∷◌, length, slice_index_or}
+use Rattle.std.specs.Prelude.{All, Result, Ok, Err, Some, vec_len}
 use Rattle.gft_range.specs.declared.Range.{Range}
 use Rattle.gft_range.specs.Words.{InRange}
-use Rattle.gft_drive.specs.Words.{DriveState}
+use Rattle.gft_drive.specs.Words.{DriveState, Image}
 use Rattle.gft_outside.specs.Words.{OutLaneState}
 use Rattle.gft_pass.specs.declared.Cause.{Cause}
 use Rattle.gft_send.specs.declared.plan.SendPlan.{SendPlan}
 use Rattle.gft_send.specs.declared.transfer.Stripe.{Stripe}
-use Rattle.gft_send.specs.Sending.{MustHave}
+use Rattle.gft_send.specs.Sending.{GoesOut, MustHave}
+use Rattle.gft_send.specs.Streams.{sent_stream}
 use Rattle.gft_send.specs.Stripes.{SendsLane}
 
 -- it has the data connections of the shape, on which more may be put, and its drive has the region
@@ -23,6 +25,22 @@ abbrev pub SendsStripe : {D X : Type 0} → (D → DriveState) → (X → OutLan
 SendsStripe drive_state out_state plan done number old new =
     SendsLane out_state plan done number new.sent (drive_state old.drive) (drive_state new.drive)
     old.channels.items new.channels.items
+
+-- the drive tells its bytes, and they are this file
+abbrev pub TellsFile : DriveState → List ℕ → Type 0
+TellsFile drive file = (image : Image) × (drive.contents ≡ Some image) × (image.bytes ≡ file)
+
+-- where all drives have one file, and tell it, each data connection got its stream of it; of a stripe that
+-- ended with a cause, a front of that
+abbrev pub CarriesFile : {D X : Type 0} → (D → DriveState) → (X → OutLaneState) → SendPlan → List Range
+    → List (Stripe D X) → List (Stripe D X) → Type 0
+CarriesFile {D} {X} drive_state out_state plan done old new =
+    (file : List ℕ) → All (λ stripe. TellsFile (drive_state stripe.drive) file) old
+    → (i k : ℕ) (d : Stripe D X) (out : X) → i < length old
+    → k < length (slice_index_or old i d).channels.items
+    → GoesOut (slice_index_or new i d).sent (sent_stream file plan done i k)
+    (out_state (slice_index_or (slice_index_or old i d).channels.items k out))
+    (out_state (slice_index_or (slice_index_or new i d).channels.items k out))
 
 -- ---- the answer
 

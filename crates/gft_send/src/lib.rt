@@ -7,6 +7,8 @@ mod channel;
 mod lane;
 mod piece;
 mod plan;
+#[cfg(test)]
+mod tests;
 mod transfer;
 
 pub use lane::send_lane;

@@ -1,7 +1,7 @@
 ghost use Rattle.std.specs.Prelude.{◌≡◌, ◌^◌, ◌<◌, ℕ, All, IfOk, length, slice_index_or, sum_by};
 ghost use Rattle.gft_drive.specs.Words.{sum_below};
 ghost use Rattle.gft_send.specs.Stripes.{IsSendPlan, stripe_bytes};
-ghost use Rattle.gft_send.specs.Transfers.{IsReadyStripe, SendsStripe, all_sent, bytes_told};
+ghost use Rattle.gft_send.specs.Transfers.{CarriesFile, IsReadyStripe, SendsStripe, all_sent, bytes_told};
 
 use crate::lane::send_lane;
 use crate::plan::SendPlan;
@@ -111,6 +111,7 @@ pub fn send<D: Drive + Drop, X: OutLane + Drop, R: Threads + Wait + Sync>(
     requires ready { All (IsReadyStripe D.state X.state plan.now) stripes.old }
     ensures stripes { (i : ℕ) (d : _) → i < length stripes.old → SendsStripe D.state X.state plan.now
         done.now.ranges i (slice_index_or stripes.old i d) (slice_index_or stripes.new i d) }
+    ensures one_file { CarriesFile D.state X.state plan.now done.now.ranges stripes.old stripes.new }
     ensures answer { result ≡ all_sent stripes.new }
     ensures count { IfOk result (λ n. n ≡ sum_below (stripe_bytes plan.now done.now.ranges)
         plan.now.shape.stripes) }

@@ -1,10 +1,4 @@
-use Rattle.std.proofs.Common.{◌≡◌, ℕ, ◌++◌, List, true}
-use Rattle.std.specs.Prelude.{Ok}
-use Rattle.gft_range.specs.declared.Range.{Range}
-use Rattle.gft_range.specs.Words.{HasOffset}
-use Rattle.gft_send.specs.Sending.{HasRest, Sends}
-use Rattle.gft_send.specs.Streams.{data_blocks}
-use Rattle.gft_send.specs.Stripes.{bytes_in}
+use Rattle.std.proofs.Common.{◌≡◌, true}
 use Rattle.gft_send.proofs.BlockLemmas.{HasPut}
 use Rattle.gft_send.proofs.block.send_blocks.Given as goal
 

@@ -1,9 +1,8 @@
-use Rattle.std.proofs.Common.{◌≡◌, ◌+◌, ◌≤◌, ℕ, List, length, take, drop, arith, refl, sym, ap, ◌∙◌, subst}
-use Rattle.std.specs.Prelude.{Err, Ok, Option, Result, slice_range}
+use Rattle.std.proofs.Common.{◌≡◌, ◌+◌, ℕ, take, drop, arith, sym, ap, subst}
+use Rattle.std.specs.Prelude.{Err, Ok, Option, slice_range}
 use Rattle.gft_range.specs.Words.{InRange}
 use Rattle.gft_drive.specs.Words.{Image}
-use Rattle.gft_pass.specs.declared.Cause.{Cause}
-use Rattle.gft_send.specs.Sending.{IsRestOf, MustHave, Sends, end_of_piece}
+use Rattle.gft_send.specs.Sending.{IsRestOf, MustHave}
 use Rattle.gft_send.proofs.BlockLemmas.{no_header, range_from, rest_step}
 use Rattle.gft_send.proofs.FileLemmas.{part_none}
 use Rattle.gft_send.proofs.SendLemmas.{sends_as, sends_err, sends_none, sends_with}

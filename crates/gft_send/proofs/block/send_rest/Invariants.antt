@@ -1,4 +1,4 @@
-use Rattle.std.proofs.Common.{◌≡◌, ℕ, ◌-◌, ◌<◌, ◌≤◌, length, true}
+use Rattle.std.proofs.Common.{◌≡◌, ℕ, ◌-◌, ◌≤◌, true}
 use Rattle.std.specs.Prelude.{Ok, slice_range}
 use Rattle.gft_range.specs.Words.{InRange}
 use Rattle.gft_send.specs.Sending.{IsRestOf, Sends}

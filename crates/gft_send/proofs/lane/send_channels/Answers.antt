@@ -1,4 +1,4 @@
-use Rattle.std.proofs.Common.{◌≡◌, ◌+◌, ◌-◌, ◌≤◌, ◌<◌, ℕ, List, length, get_or, set, arith, refl, sym, subst, ap, ◌∙◌}
+use Rattle.std.proofs.Common.{◌≡◌, ◌+◌, ◌<◌, ℕ, length, get_or, set, arith, refl, sym, subst, ap, ◌∙◌}
 use Rattle.std.specs.Prelude.{Err, Option}
 use Rattle.gft_range.specs.Words.{InRange}
 use Rattle.gft_drive.specs.Words.{Image, sum_below}

@@ -1,4 +1,4 @@
-use Rattle.std.proofs.Common.{◌≡◌, ℕ, ◌<◌, length, true}
+use Rattle.std.proofs.Common.{◌≡◌, ◌<◌, length}
 use Rattle.gft_drive.specs.Words.{sum_below}
 use Rattle.gft_send.specs.Stripes.{bytes_in, channel_plan}
 use Rattle.gft_send.proofs.LaneLemmas.{HasSent}

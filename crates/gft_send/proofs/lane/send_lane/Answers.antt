@@ -1,4 +1,4 @@
-use Rattle.std.proofs.Common.{◌≤◌, length, arith}
+use Rattle.std.proofs.Common.{arith}
 use Rattle.gft_send.proofs.LaneLemmas.{sent_refused}
 use Rattle.gft_send.proofs.lane.send_lane.Goals as goal
 

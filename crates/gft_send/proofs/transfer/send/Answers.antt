@@ -1,8 +1,8 @@
-use Rattle.std.proofs.Common.{◌≡◌, ◌≤◌, ◌<◌, ℕ, length, arith, ap, ◌∙◌}
+use Rattle.std.proofs.Common.{◌≡◌, ◌≤◌, ℕ, length, arith, ap, ◌∙◌}
 use Rattle.std.specs.Prelude.{sum_by}
 use Rattle.gft_drive.specs.Words.{sum_below}
 use Rattle.gft_send.specs.Stripes.{stripe_bytes}
-use Rattle.gft_send.proofs.TransferLemmas.{EachSent, sum_answer, told_of, told_within}
+use Rattle.gft_send.proofs.TransferLemmas.{EachSent, one_file, sum_answer, told_of, told_within}
 use Rattle.gft_send.proofs.transfer.send.Goals as goal
 
 pub total_sent-requires-clause-fits : goal.total_sent-requires-clause-fits
@@ -22,3 +22,6 @@ returns-clause-count g c =
     let size = c.send_stripes.auto.stripes in
     sum_answer {D = g.row.D.Denot} {X = g.row.X.Denot} new (stripe_bytes c.args.plan.now c.args.done.now.ranges) c.total_sent.result c.args.plan.now.shape.stripes c.total_sent.ensures
     (λ i d lt. (c.send_stripes.ensures.sent i d (omega arith)).count) (size ∙ c.requires.stripes)
+
+pub returns-clause-one_file : goal.returns-clause-one_file
+returns-clause-one_file g c = one_file {D = g.row.D.Denot} {X = g.row.X.Denot} g.D.Drive.state g.X.OutLane.state c.args.plan.now c.args.done.now.ranges c.args.stripes.now c.send_stripes.new.stripes c.send_stripes.ensures.sent

@@ -1,4 +1,4 @@
-use Rattle.std.proofs.Common.{◌<◌, arith, rules, sym, subst}
+use Rattle.std.proofs.Common.{arith, rules, sym, subst}
 use Rattle.gft_send.specs.declared.transfer.Stripe.{Stripe}
 use Rattle.gft_send.specs.Transfers.{IsReadyStripe}
 use Rattle.gft_send.proofs.CountLemmas.{stripes_within}

@@ -1,4 +1,4 @@
-use Rattle.std.proofs.Common.{◌≡◌, ◌+◌, ◌≤◌, ◌<◌, ℕ, List, drop, arith, sym, ap, ◌∙◌}
+use Rattle.std.proofs.Common.{◌≡◌, ◌+◌, ℕ, drop, arith, sym, ap, ◌∙◌}
 use Rattle.std.specs.Prelude.{Err, Ok, Result, slice_index_or}
 use Rattle.gft_pass.specs.declared.Cause.{Cause}
 use Rattle.gft_send.specs.declared.transfer.Stripe.{Stripe}
