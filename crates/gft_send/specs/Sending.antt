@@ -1,8 +1,8 @@
 -- What a step of sending does: which bytes of which file went out, and why it ended.
 --
--- A drive that doesn't tell its bytes may give others at each read. So a step takes any file that the drive may
--- have had so far, and leaves one that it may have with what was read now. Where a drive tells its bytes, both
--- are these.
+-- A drive that doesn't tell its bytes may give others at each read. So a step takes any file that the drive
+-- may have had so far, and leaves one that it may have with what was read now. Where a drive tells its bytes,
+-- both are these.
 use Rattle.std.specs.Prelude.{◌≡◌, ◌≢◌, ◌⊎◌, ℕ, ◌+◌, ◌<◌, ◌≤◌, true, List, [], ◌∷◌, length, take, slice_index}
 use Rattle.std.specs.Prelude.{IfErr, OnOk, Option, None, Some, Result, Ok, Err}
 use Rattle.std.specs.Io.KnownBytes.{Appends}
@@ -63,8 +63,8 @@ abbrev pub HasRest : List Range → Range → Type 0
 HasRest [] rest = ⊥
 HasRest (r ∷ rs) rest = IsRestOf r rest ⊎ HasRest rs rest
 
--- a call to the outside failed, memory was refused, or the drive, which doesn't tell its bytes, gave none at a
--- place that is to be sent
+-- a call to the outside failed, memory was refused, or the drive, which doesn't tell its bytes, gave none
+-- at a place that is to be sent
 abbrev pub IsSendCause : Option Image → (Range → Type 0) → Cause → Type 0
 IsSendCause contents Left LinkFailed = Unit {0}
 IsSendCause contents Left DriveFailed = Unit {0}
@@ -80,6 +80,8 @@ abbrev pub end_of_piece : Range → Result ℕ Cause → ℕ
 end_of_piece left (Ok count) = left.start + count
 end_of_piece left (Err cause) = left.end
 
+-- bytes of a file went out, of which these places were read; the drive is as it was, and the counts and the
+-- cause show why the step ended where it did
 pub record Sends {T : Type 0} (places : ℕ → Type 0) (Left : Range → Type 0) (bytes_of : List ℕ → List ℕ)
     (result : Result T Cause) (drive looked : DriveState) (old new : OutLaneState) : Type 0 where
   pub carries : (file : List ℕ) → MayHave drive.contents file → HasPlaces places file

@@ -1,4 +1,5 @@
-ghost use Rattle.std.specs.Prelude.{◌≡◌, ◌+◌, ◌-◌, ◌<◌, ◌≤◌, ◌++◌, true, IfOk, drop, length, slice_range, take};
+ghost use Rattle.std.specs.Prelude.{◌≡◌, ◌+◌, ◌-◌, ◌<◌, ◌≤◌, ◌++◌, true, IfOk};
+ghost use Rattle.std.specs.Prelude.{drop, length, slice_range, take};
 ghost use Rattle.gft_range.specs.Words.{InRange};
 ghost use Rattle.gft_eblock.specs.declared.TheConstants.{HEADER_LEN};
 ghost use Rattle.gft_send.specs.Sending.{IsRestOf, MustHave, Sends, end_of_piece};
@@ -26,7 +27,8 @@ pub(crate) fn send_piece<D: Drive, X: OutLane>(
     requires is_open { (X.state out.old).is_open ≡ true }
     ensures count { IfOk result (λ n. (0 < n) × (n ≤ left.end - left.start)) }
     ensures sends { Sends (InRange left) (IsRestOf left)
-        (λ file. drop from (take HEADER_LEN buf.old) ++ slice_range file left.start (end_of_piece left result))
+        (λ file. drop from (take HEADER_LEN buf.old)
+        ++ slice_range file left.start (end_of_piece left result))
         result (D.state drive.old) (D.state drive.new) (X.state out.old) (X.state out.new) }
     ensures header { take HEADER_LEN buf.new ≡ take HEADER_LEN buf.old }
 {
