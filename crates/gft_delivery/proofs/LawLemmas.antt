@@ -10,6 +10,7 @@ use Rattle.gft_eblock.specs.declared.TheConstants.{MAX_BYTES}
 use Rattle.gft_range.specs.declared.Range.{Range}
 use Rattle.gft_range.specs.Words.{HasOffset, InRange}
 use Rattle.gft_eblock.specs.Words.{Arrival, Arrives, arrivals, eods, totals}
+use Rattle.gft_eblock.proofs.Lemmas.{eods-append}
 use Rattle.gft_layout.specs.Words.{IsLeft, Owner, owner_of, plan_of}
 use Rattle.gft_layout.proofs.Lemmas.{NamesItsOffsets-plan, owner_within}
 use Rattle.gft_drive.specs.Words.{IsAmong, IsSending, Orders, sum_below, total_of}
@@ -18,7 +19,7 @@ use Rattle.gft_send.specs.declared.SendPlan.{SendPlan}
 use Rattle.gft_send.specs.Words.{sent_stream}
 use Rattle.gft_delivery.specs.Brought.{BringsStreams, CarriesStreams, SendsWhole, eods_of, order_on, orders_of}
 use Rattle.gft_delivery.specs.Laws.{OrdersAreShortLaw, StreamsAreSendingLaw, StreamsAreWholeLaw}
-use Rattle.gft_delivery.proofs.ListLemmas.{IsClosed, IsSound, among_offsets, byte_many, byte_many-append, closed-none, eods-append, offsets, sound_below, sound_no_bad, sound_truthful, total_count, total_count-append}
+use Rattle.gft_delivery.proofs.ListLemmas.{IsClosed, IsSound, among_offsets, byte_many, byte_many-append, closed-none, offsets, sound_below, sound_no_bad, sound_truthful, total_count, total_count-append}
 use Rattle.gft_delivery.proofs.SumLemmas.{at_most_sum, sum_at_most, sum_first, sum_ones}
 use Rattle.gft_delivery.proofs.LaneLemmas.{CameBelow, arrivals_none, came_below, lane_all, lane_arrives, lane_bytes, lane_closed, lane_many, unopened_stream}
 use Rattle.gft_delivery.proofs.OrderLemmas.{in_order, lane_offsets-arrivals}

@@ -46,17 +46,6 @@ sound_no_bad file total (Bad refusal ∷ list) all = absurd all.0
 
 -- ---- how many
 
-pub eods-append : (a b : List Arrival) → eods (a ++ b) ≡ eods a + eods b
-eods-append [] b = omega arith
-eods-append (At offset value ∷ a) b = eods-append a b
-eods-append (Eof total ∷ a) b = eods-append a b
-eods-append (Eod ∷ a) b = let h = eods-append a b in omega (arith, h)
-eods-append (Bad refusal ∷ a) b = eods-append a b
-
-pub eods-data : (offset : ℕ) (bytes : List ℕ) → eods (data_at offset bytes) ≡ 0
-eods-data offset [] = refl
-eods-data offset (b ∷ bytes) = eods-data (offset + 1) bytes
-
 abbrev pub total_count : List Arrival → ℕ
 total_count list = length (totals list)
 

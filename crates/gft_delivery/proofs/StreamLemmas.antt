@@ -10,12 +10,12 @@ use Rattle.gft_range.specs.declared.Range.{Range}
 use Rattle.gft_range.specs.Words.{HasOffset}
 use Rattle.gft_eblock.specs.declared.Header.{Header}
 use Rattle.gft_eblock.specs.declared.TheConstants.{HEADER_LEN}
-use Rattle.gft_eblock.specs.Words.{Arrival, Arrives, Eod, Eof, arrivals, blocks_from, data_at, end_or, eods, is_bad, is_eod, is_eof, spelling}
-use Rattle.gft_eblock.specs.Header.{has_flag}
+use Rattle.gft_eblock.specs.Words.{Arrival, Arrives, Eod, Eof, arrivals, blocks_from, data_at, end_or, eods, has_flag, is_bad, is_eod, is_eof, spelling}
+use Rattle.gft_eblock.proofs.Lemmas.{eods-append, eods-data_at, length-spelling}
 use Rattle.gft_layout.specs.Words.{IsAscending, plan_of}
 use Rattle.gft_send.specs.declared.SendPlan.{SendPlan}
 use Rattle.gft_send.specs.Words.{data_blocks, data_header, ending_of, eod_header, eof_header, sent_stream}
-use Rattle.gft_delivery.proofs.ListLemmas.{IsClosed, IsSound, all-append, arrives-data, arrives-front, arrives-rest, byte_many, byte_many-append, byte_many-data, closed-append, eods-append, eods-data, total_count, total_count-append}
+use Rattle.gft_delivery.proofs.ListLemmas.{IsClosed, IsSound, all-append, arrives-data, arrives-front, arrives-rest, byte_many, byte_many-append, byte_many-data, closed-append, total_count, total_count-append}
 
 -- the law of one block that is spelled out
 abbrev pub OneBlock : Type 0
@@ -26,10 +26,6 @@ OneBlock = (shift place : ℕ) (h : Header) (bytes rest : List ℕ)
     ++ end_or (is_eod h.flags) (blocks_from shift (place + HEADER_LEN + h.count) rest))
 
 -- ---- headers
-
-pub length-spelling : (h : Header) → length (spelling h) ≡ 17
-unfolding spelling
-length-spelling h = refl
 
 data_eof : is_eof 0 ≡ false
 unfolding has_flag
@@ -198,7 +194,7 @@ eods_told file rs first total =
     no_eods (r ∷ l) =
         let bytes = slice_range file r.start r.end in
         let split = eods-append (data_at r.start bytes) (told_ranges file l) in
-        let here = eods-data r.start bytes in
+        let here = eods-data_at r.start bytes in
         let later = no_eods l in
         omega (arith, split, here, later)
 

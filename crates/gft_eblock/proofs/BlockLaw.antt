@@ -10,7 +10,7 @@ use Rattle.gft_eblock.specs.Arrivals.{data_at, data_then, end_or, good_block, bl
 use Rattle.gft_eblock.proofs.BlockLemmas.{blocks_from-append, data_then-append, data_then-zero}
 use Rattle.gft_eblock.proofs.SpellingLemmas.{header_of-spelling}
 
-length-spelling : (h : Header) → length (spelling h) ≡ HEADER_LEN
+pub length-spelling : (h : Header) → length (spelling h) ≡ HEADER_LEN
 unfolding spelling
 length-spelling h = refl
 

@@ -11,7 +11,7 @@ use Rattle.gft_eblock.specs.declared.event.Step.{Step}
 use Rattle.gft_eblock.specs.declared.channel.State.{State}
 use Rattle.gft_eblock.specs.declared.channel.State.TheVariants.{Header, Data, EodWaits, Done, Failed}
 use Rattle.gft_eblock.specs.Words.{Advances, Arrival, At, Bad, Eod, Eof, Fails, IsDone, IsDoneState, IsEventOf, Reader, TakesMore, data_at, eods, event_arrivals, refusal_of, to_come, wanted}
-use Rattle.gft_eblock.proofs.Lemmas.{to_come-done, to_come-nothing}
+use Rattle.gft_eblock.proofs.Lemmas.{eods-append, eods-data_at, to_come-done, to_come-nothing}
 use Rattle.gft_outside.specs.Words.{HasNoBad}
 use Rattle.gft_pass.specs.declared.Numbers.{Numbers}
 use Rattle.gft_pass.specs.Words.{Lane}
@@ -31,17 +31,6 @@ HasNoBad-append (At offset value ∷ a) b x y = HasNoBad-append a b x y
 HasNoBad-append (Eof total ∷ a) b x y = HasNoBad-append a b x y
 HasNoBad-append (Eod ∷ a) b x y = HasNoBad-append a b x y
 HasNoBad-append (Bad r ∷ a) b x y = absurd x
-
-pub eods-append : (a b : List Arrival) → eods (a ++ b) ≡ eods a + eods b
-eods-append [] b = omega arith
-eods-append (At offset value ∷ a) b = eods-append a b
-eods-append (Eof total ∷ a) b = eods-append a b
-eods-append (Eod ∷ a) b = let h = eods-append a b in omega (arith, h)
-eods-append (Bad r ∷ a) b = eods-append a b
-
-eods-data : (offset : ℕ) (bytes : List ℕ) → eods (data_at offset bytes) ≡ 0
-eods-data offset [] = refl
-eods-data offset (b ∷ bs) = eods-data (offset + 1) bs
 
 HasNoBad-data : (offset : ℕ) (bytes : List ℕ) → HasNoBad (data_at offset bytes)
 HasNoBad-data offset [] = tt
@@ -68,7 +57,7 @@ awaits_undone (Failed bad) header more done = done
 
 -- behind an event the channel is done exactly if it was an EOD
 event_ends : (e : Event) (s : State) (header : List ℕ) → IsEventOf (Some e) s header → IsDoneState s ↔ (0 < eods (event_arrivals (Some e)))
-event_ends (event.Piece offset bytes) s header shape = (λ done. absurd (takes_undone s shape.2 done), λ some. let none = eods-data offset bytes.now in absurd (omega (arith, some, none)))
+event_ends (event.Piece offset bytes) s header shape = (λ done. absurd (takes_undone s shape.2 done), λ some. let none = eods-data_at offset bytes.now in absurd (omega (arith, some, none)))
 event_ends (event.Eof total) s header shape = (λ done. absurd (takes_undone s shape done), λ some. absurd (omega (arith, some)))
 event_ends event.Eod s header shape = (λ done. omega arith, λ some. shape)
 

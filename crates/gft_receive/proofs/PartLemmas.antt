@@ -9,6 +9,7 @@ use Rattle.gft_eod.specs.declared.EodError.{EodError}
 use Rattle.gft_eod.specs.declared.EodError.TheVariants as eod
 use Rattle.gft_eod.specs.Words.{Count, IsMet, eod_refusal, eof_refusal}
 use Rattle.gft_eblock.specs.Words.{Arrival, At, Bad, Eod, Eof, eods}
+use Rattle.gft_eblock.proofs.Lemmas.{eods-append}
 use Rattle.gft_drive.specs.Words.{Sent}
 use Rattle.gft_keep.specs.Words.{KeepState}
 use Rattle.gft_outside.specs.Words.{AreAgreed, LaneInput, LaneState, all_eods, all_totals, first_of, lane_arrivals}
@@ -28,7 +29,6 @@ use Rattle.gft_receive.specs.Transfer.{MovesEach}
 use Rattle.gft_receive.proofs.BehindLemmas.{eod_behind}
 use Rattle.gft_receive.proofs.CompleteLemmas.{end_excused, keep_excused, settled_excused}
 use Rattle.gft_receive.proofs.EachLemmas.{BooksFront, BooksWhole, GoesThrough, book_found, books_front, eods_front, eods_whole, met_at, met_or_whole, some_at, sum_all, total_taken}
-use Rattle.gft_receive.proofs.FeedLemmas.{eods-append}
 use Rattle.gft_receive.proofs.KnownLemmas.{known_untold, lefts_told, only_agreed}
 use Rattle.gft_receive.proofs.TableLemmas.{no_both}
 

@@ -8,6 +8,7 @@ use Rattle.std.proofs.lemmas.Option.{get_or_from_slice_get}
 use Rattle.gft_eblock.specs.declared.TheConstants.{MAX_BYTES}
 use Rattle.gft_eblock.specs.declared.BadBlock.{BadBlock}
 use Rattle.gft_eblock.specs.Words.{Arrival, Bad, IsDone, Reader, arrivals, eods, refusal_of, to_come}
+use Rattle.gft_eblock.proofs.Lemmas.{eods-append}
 use Rattle.gft_outside.specs.Words.{Came, Ended, HasNoBad, LaneInput, Opened, Silence, byte_count, gained, is_live, lane_arrivals, stream}
 use Rattle.gft_outside.proofs.Lemmas.{cuts, stream_came, stream_other}
 use Rattle.gft_drive.specs.Words.{Sent}
@@ -23,7 +24,7 @@ use Rattle.gft_receive.specs.Honest.{MayBring}
 use Rattle.gft_receive.specs.Table.{AreApart, EachReads, IsAtPlace, ReadsStream, live_numbers}
 use Rattle.gft_receive.specs.Turns.{FeedsHonest, IsFedWhole, IsUnfed, StandsBehind, Turned, bounds_of}
 use Rattle.gft_receive.proofs.CauseLemmas.{channels_piece, count_piece, piece-bad, piece-long, piece-none, refused_in-last, refused_in-none}
-use Rattle.gft_receive.proofs.FeedLemmas.{HasNoBad-append, eods-append}
+use Rattle.gft_receive.proofs.FeedLemmas.{HasNoBad-append}
 use Rattle.gft_receive.proofs.ListLemmas.{refilled}
 use Rattle.gft_receive.proofs.TableLemmas.{apart_swap, each-at, live_at, no_both, or_false, same_live}
 

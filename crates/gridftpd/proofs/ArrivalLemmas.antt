@@ -1,7 +1,7 @@
 -- Lists of arrivals, one behind another.
 use Rattle.std.proofs.Common.{◌≡◌, ℕ, ◌+◌, ◌<◌, ◌≤◌, ◌⊎◌, ◌↔◌, List, [], ◌∷◌, ◌++◌, length, refl, ap, arith, inl, inr}
 use Rattle.std.proofs.lemmas.Bool.{cases_lt}
-use Rattle.gft_eblock.specs.Words.{Arrival, At, Eof, Eod, Bad, Arrives, totals, eods, data_at}
+use Rattle.gft_eblock.specs.Words.{Arrival, At, Eof, Eod, Bad, Arrives, totals, data_at}
 
 pub Arrives-append : (a b : List Arrival) (x : ℕ) → Arrives (a ++ b) x ↔ (Arrives a x ⊎ Arrives b x)
 Arrives-append [] b x = (λ h. inr h, λ h. elim h [ inl none ↦ absurd none | inr in_b ↦ in_b ])
@@ -27,13 +27,6 @@ totals-append (Eof t ∷ a) b = ap (λ ts. t ∷ ts) (totals-append a b)
 totals-append (Eod ∷ a) b = totals-append a b
 totals-append (Bad refused ∷ a) b = totals-append a b
 
-pub eods-append : (a b : List Arrival) → eods (a ++ b) ≡ eods a + eods b
-eods-append [] b = omega arith
-eods-append (At y v ∷ a) b = eods-append a b
-eods-append (Eof t ∷ a) b = eods-append a b
-eods-append (Eod ∷ a) b = omega (arith, eods-append a b)
-eods-append (Bad refused ∷ a) b = eods-append a b
-
 pub Arrives-data_at : (offset : ℕ) (bytes : List ℕ) (x : ℕ) → Arrives (data_at offset bytes) x ↔ ((offset ≤ x) × (x < offset + length bytes))
 Arrives-data_at offset [] x = (λ none. absurd none, λ h. absurd (omega arith))
 Arrives-data_at offset (v ∷ bytes) x =
@@ -45,7 +38,3 @@ Arrives-data_at offset (v ∷ bytes) x =
 pub totals-data_at : (offset : ℕ) (bytes : List ℕ) → totals (data_at offset bytes) ≡ []
 totals-data_at offset [] = refl
 totals-data_at offset (v ∷ bytes) = totals-data_at (offset + 1) bytes
-
-pub eods-data_at : (offset : ℕ) (bytes : List ℕ) → eods (data_at offset bytes) ≡ 0
-eods-data_at offset [] = refl
-eods-data_at offset (v ∷ bytes) = eods-data_at (offset + 1) bytes

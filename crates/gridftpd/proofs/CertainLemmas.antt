@@ -5,7 +5,7 @@ use Rattle.gft_eblock.specs.Words.{Arrival, Refusal, At, Eof, Eod, Bad, eods, ar
 use Rattle.gft_range.specs.declared.Range.{Range}
 use Rattle.gft_drive.specs.declared.TheConstants.{MAX_RANGES}
 use Rattle.gft_eblock.specs.declared.TheConstants.{MAX_BYTES}
-use Rattle.gft_eblock.proofs.Lemmas.{arrivals-ended, arrivals-grow, unfinished_not_ended}
+use Rattle.gft_eblock.proofs.Lemmas.{arrivals-ended, arrivals-grow, eods-append, unfinished_not_ended}
 use Rattle.gft_eod.specs.declared.EodError.{EodError}
 use Rattle.gridftpd.proofs.CountLemmas.{done_is_counted}
 use Rattle.gridftpd.specs.declared.outcome.Outcome.{Outcome}
@@ -15,7 +15,6 @@ use Rattle.std.specs.Io.KnownBytes.{Appends}
 use Rattle.gridftpd.specs.Line.{text_of}
 use Rattle.gridftpd.specs.Drain.{FillsRanges, IsTaken, IsGoodInput, IsRefusal}
 use Rattle.gridftpd.proofs.DoneLemmas.{SaysDone, says_done}
-use Rattle.gridftpd.proofs.ArrivalLemmas.{eods-append}
 use Rattle.gridftpd.proofs.EndLemmas.{no_arrivals}
 use Rattle.gridftpd.proofs.OriginLemmas.{HasEnded-eods}
 

@@ -5,6 +5,7 @@ use Rattle.std.proofs.lemmas.Bool.Decides.{eqb_tells}
 use Rattle.std.specs.Prelude.{nat_eq, nat_lt}
 use Rattle.gft_eod.specs.declared.TheConstants.{MAX_EODS}
 use Rattle.gft_eblock.specs.Words.{Arrival, Eof, Eod, totals, eods}
+use Rattle.gft_eblock.proofs.Lemmas.{eods-append}
 use Rattle.gft_outside.specs.Words.{first_of, AllAre, AreAgreed}
 use Rattle.gridftpd.proofs.DoneLemmas.{SaysDone}
 use Rattle.gft_eod.specs.declared.EodError.{EodError}
@@ -12,7 +13,7 @@ use Rattle.gft_eod.specs.declared.EodError.TheVariants.{BadTotal, TwoTotals}
 use Rattle.gft_eod.specs.Words.{Count, eof_refusal, eod_refusal, totals_refusal}
 use Rattle.gft_core.proofs.Lemmas.{else_none, eod_fits, eof_fits}
 use Rattle.gridftpd.specs.Follows.{Counts}
-use Rattle.gridftpd.proofs.ArrivalLemmas.{totals-append, eods-append}
+use Rattle.gridftpd.proofs.ArrivalLemmas.{totals-append}
 
 AllAre-append : (n : ℕ) (a b : List ℕ) → AllAre n a → AllAre n b → AllAre n (a ++ b)
 AllAre-append n [] b all_a all_b = all_b

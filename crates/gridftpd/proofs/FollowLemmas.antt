@@ -15,7 +15,7 @@ use Rattle.gft_keep.specs.Words.{IsOpen, MovesBy, Stored, StoresSome, keep_of}
 use Rattle.gridftpd.proofs.HeldLemmas.{kept_stored}
 use Rattle.gft_eblock.specs.declared.Step.{Step}
 use Rattle.gft_eblock.specs.declared.Event.TheVariants as event
-use Rattle.gft_eblock.proofs.Lemmas.{IsUnfinished-append, IsUnfinished-data_at, to_come-data}
+use Rattle.gft_eblock.proofs.Lemmas.{IsUnfinished-append, IsUnfinished-data_at, eods-append, eods-data_at, to_come-data}
 use Rattle.gft_eod.specs.Words.{eof_refusal}
 use Rattle.gridftpd.proofs.CountLemmas.{Counts-same, Counts-eof, Counts-eod}
 use Rattle.gridftpd.specs.declared.intake.Intake.{Intake}
@@ -26,7 +26,7 @@ use Rattle.gridftpd.specs.Follows.{Books, Counts, Follows, HasKeptIn}
 use Rattle.gridftpd.proofs.RangeLemmas.{HasNoBad-append, HasNoBad-data_at, agreed_same, few_early}
 use Rattle.gft_drive.specs.declared.TheConstants.{MAX_RANGES}
 use Rattle.gft_eblock.specs.declared.TheConstants.{MAX_BYTES}
-use Rattle.gridftpd.proofs.ArrivalLemmas.{Arrives-append, eods-append, Arrives-data_at, totals-data_at, eods-data_at}
+use Rattle.gridftpd.proofs.ArrivalLemmas.{Arrives-append, Arrives-data_at, totals-data_at}
 use Rattle.gridftpd.proofs.EventLemmas.{kept-first, kept-later, kept-data_at}
 use Rattle.gridftpd.proofs.EndLemmas.{Consumes-append}
 use Rattle.gridftpd.specs.Drain.{IsTaken}
