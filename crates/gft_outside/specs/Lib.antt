@@ -8,8 +8,10 @@ pub mod LaneInputs
 pub mod LaneScripts
 pub mod LaneStates
 pub mod Laws
+pub mod Links
 pub mod Lists
 pub mod OutLanes
+pub mod Shelves
 pub mod Told
 pub mod Totals
 pub mod Whole

@@ -10,9 +10,15 @@ pub use Rattle.gft_outside.specs.LaneInputs.{AreInTurn, Came, Channels, Ended, I
 pub use Rattle.gft_outside.specs.LaneInputs.{Silence, channels_after, is_live, no_channels, without}
 pub use Rattle.gft_outside.specs.LaneScripts.{LaneList, front_in_turn, lane_inputs, lane_state, new_lane}
 pub use Rattle.gft_outside.specs.LaneStates.{EventFits, Gives, LaneEnds, LaneState, ends_lane, given_by}
+pub use Rattle.gft_outside.specs.Links.{Deals, Dialled, HandsOut, IsDialTo, IsNewLane, IsNewOutLane, LinkList}
+pub use Rattle.gft_outside.specs.Links.{LinkState, NotDialled, NotHandedOut, TakesBack, TakesBackOut}
+pub use Rattle.gft_outside.specs.Links.{link_state, listen_fails, more_faults, new_link}
 pub use Rattle.gft_outside.specs.Lists.{Failures, FailsBy, Script, fails_next}
 pub use Rattle.gft_outside.specs.OutLanes.{OutLaneList, OutLaneState, PutsBy, PutsOut, new_out_lane}
 pub use Rattle.gft_outside.specs.OutLanes.{out_lane_state, put_fails, put_takes}
+pub use Rattle.gft_outside.specs.Shelves.{CountsShelf, FindsDrive, FindsNone, HasUnder, IsNewDrive, MakesDrive}
+pub use Rattle.gft_outside.specs.Shelves.{NotFound, NotMade, NotRemoved, RemovesName, SameDrives, SameOthers}
+pub use Rattle.gft_outside.specs.Shelves.{ShelfState}
 pub use Rattle.gft_outside.specs.Told.{Gains, IsOver, Loses}
 pub use Rattle.gft_outside.specs.Totals.{AllAre, AreAgreed, first_of}
 pub use Rattle.gft_outside.specs.Whole.{AreWhole, AreWholeParts, EndsItsChannels, IsSmooth, IsWholeLane}

@@ -6,6 +6,7 @@
 #![tactic(auto)]
 
 mod absent;
+mod caller;
 mod clock;
 mod control;
 mod control_item;
@@ -16,17 +17,20 @@ mod lane;
 mod lane_item;
 mod lane_script;
 pub mod laws;
+mod link;
 mod list_clock;
 mod memory_control;
 mod memory_lane;
 mod memory_out_lane;
 mod out_lane;
 mod piece;
+mod shelf;
 #[cfg(test)]
 mod tests;
 mod turns;
 
 pub use absent::{NoClock, NoControl, NoSink};
+pub use caller::Caller;
 pub use clock::Clock;
 pub use control::{Control, Heard};
 pub use control_item::ControlItem;
@@ -34,11 +38,13 @@ pub use gate_lane::GateLane;
 pub use gft_drive::{Origin, Unknown};
 pub use lane::{Lane, LaneEvent};
 pub use lane_item::LaneItem;
+pub use link::{Dial, Link, LinkError, Listening};
 pub use list_clock::ListClock;
 pub use memory_control::MemoryControl;
 pub use memory_lane::MemoryLane;
 pub use memory_out_lane::MemoryOutLane;
 pub use out_lane::OutLane;
+pub use shelf::{Shelf, ShelfError};
 
 /// The most live channels of one lane.
 pub const MAX_LIVE: usize = 64;
