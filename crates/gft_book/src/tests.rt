@@ -197,27 +197,43 @@ fn new_book(alloc: Global, failing: &[FailAt]) -> Result<MemoryBook, Fail>
 }
 
 #[test]
-fn a_begin_is_refused_for_its_cause(rt: HostRuntime) -> Result<(), Fail> {
-    let alloc = rt.alloc();
+fn a_restart_lacks_what_is_not_kept(rt: HostRuntime) -> Result<(), Fail> {
+    let mut book = new_book(rt.alloc(), &[])?;
     let missing = range(0, 5);
-    let mut book = new_book(alloc, &[])?;
-    let restarted = refusal(&mut book, restart(alloc, b"0-5")?);
+    let restarted = refusal(&mut book, restart(rt.alloc(), b"0-5")?);
     assert_eq!(rt; restarted, Some(BeginError::NotInJournal { missing }));
     assert_eq!(rt; book.use_now(), Use::Rest);
+    Ok(())
+}
+
+#[test]
+fn a_transfer_that_runs_is_busy(rt: HostRuntime) -> Result<(), Fail> {
+    let mut book = new_book(rt.alloc(), &[])?;
     assert_eq!(rt; refusal(&mut book, How::Fresh), None);
     let found = Use::Storing;
     assert_eq!(rt; book.use_now(), found);
     let again = refusal(&mut book, How::Fresh);
     assert_eq!(rt; again, Some(BeginError::Busy { found }));
-    let mut book = new_book(alloc, &[])?;
+    Ok(())
+}
+
+#[test]
+fn a_complete_file_is_not_added_to(rt: HostRuntime) -> Result<(), Fail> {
+    let mut book = new_book(rt.alloc(), &[])?;
     let whole = [(0, HELLO), (0, Call::Eof(1)), (0, Call::Eod)];
     assert_eq!(rt; run(&mut book, How::Fresh, &whole)?, Ok((5, true)));
     let len = 5;
     let added = refusal(&mut book, How::Esto);
     assert_eq!(rt; added, Some(BeginError::CompleteAlready { len }));
-    let mut drive = new_drive(alloc, &[])?;
+    Ok(())
+}
+
+#[test]
+fn a_file_made_elsewhere_is_not_added_to(rt: HostRuntime) -> Result<(), Fail> {
+    let mut drive = new_drive(rt.alloc(), &[])?;
     drive.write_at(Part::Bytes, 0, b"hello")?;
-    let mut book = book_over(alloc, drive)?;
+    let mut book = book_over(rt.alloc(), drive)?;
+    let len = 5;
     let added = refusal(&mut book, How::Esto);
     assert_eq!(rt; added, Some(BeginError::CompleteAlready { len }));
     Ok(())
