@@ -1,7 +1,9 @@
 mod ArrivalLemmas
+mod FindLemmas
 mod HonestLaneLemmas
 mod PieceLemmas
 mod Places
+mod ShelfLemmas
 mod StateLemmas
 mod TurnLemmas
 -- what the proofs of other crates may cite

@@ -1,5 +1,5 @@
 -- Lanes and controls over several calls.
-use Rattle.std.proofs.Common.{◌≡◌, ◌+◌, ◌-◌, Bool, true, false, List, [], ◌∷◌, ◌++◌, length, take, drop, reverse, Option, Some, None, refl, sym, ap, ◌∙◌, subst, arith, length-drop}
+use Rattle.std.proofs.Common.{◌≡◌, ℕ, ◌+◌, ◌-◌, Bool, true, false, List, [], ◌∷◌, ◌++◌, length, take, drop, reverse, Option, Some, None, refl, sym, ap, ◌∙◌, subst, arith, length-drop}
 use Rattle.std.proofs.Math.Seq.{take-add}
 use Rattle.std.proofs.lemmas.List.{append_assoc, drop-drop, reverse-append, reverse-reverse, take-append-drop}
 use Rattle.gft_outside.specs.Told.{Gains, Loses}
@@ -8,6 +8,7 @@ use Rattle.gft_outside.specs.ControlScripts.{ControlList, control_state}
 use Rattle.gft_outside.specs.LaneScripts.{LaneList, lane_state}
 use Rattle.gft_outside.specs.LaneInputs.{AreInTurn, Channels, IsInTurn, LaneInput, channels_after, channels_by, no_channels}
 use Rattle.gft_outside.specs.LaneStates.{Gives, LaneState}
+use Rattle.gft_outside.specs.Links.{IsNewLane}
 use Rattle.gft_outside.specs.Lists.{Moves, Script}
 
 -- ---- what is told
@@ -136,3 +137,13 @@ lane_gives old new script given same moves all =
       channels = ap (λ l. channels_after l no_channels) taken ∙ channels_after-append given (reverse (take old.script.place old.script.all)) no_channels;
       in_turn = script_in_turn old.script new.script given goes turn;
     }
+
+-- ---- nothing was given yet
+
+pub new_lane_state : (lane : LaneList) → (lane.script.place ≡ 0) × (lane.is_done ≡ false) × (lane.faults ≡ 0) → IsNewLane (lane_state lane)
+new_lane_state lane new = record {
+  taken = ap (λ (n : ℕ). reverse (take n lane.script.all)) new.0;
+  channels = ap (λ (n : ℕ). channels_after (reverse (take n lane.script.all)) no_channels) new.0;
+  more = new.1;
+  faults = new.2;
+}

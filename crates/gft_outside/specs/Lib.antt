@@ -10,6 +10,8 @@ pub mod LaneStates
 pub mod Laws
 pub mod Links
 pub mod Lists
+pub mod MemoryLinks
+pub mod MemoryShelves
 pub mod OutLanes
 pub mod Shelves
 pub mod Told

@@ -1,11 +1,10 @@
 -- What a link hands out and takes back.
-use Rattle.std.specs.Prelude.{◌≡◌, ℕ, ◌+◌, ◌-◌, ◌^◌, min, nat_lt, Bool, true, false, ◌||◌}
+use Rattle.std.specs.Prelude.{◌≡◌, ℕ, ◌+◌, ◌-◌, ◌^◌, min, true, false}
 use Rattle.std.specs.Prelude.{List, [], ◌∷◌, ◌++◌, length, Option, None, Some, IfSome}
 use Rattle.gft_base.specs.Words.{Rose}
 use Rattle.gft_text.specs.declared.host_port.HostPort.{HostPort}
 use Rattle.gft_outside.specs.LaneInputs.{no_channels}
 use Rattle.gft_outside.specs.LaneStates.{LaneState}
-use Rattle.gft_outside.specs.Lists.{Failures, fails_next}
 use Rattle.gft_outside.specs.OutLanes.{OutLaneState}
 use Rattle.gft_outside.specs.Told.{Gains}
 use Rattle.gft_outside.specs.declared.link.Dial.{Dial}
@@ -93,45 +92,6 @@ pub record TakesBackOut {L X : Type 0} (old new : LinkState L X) (out : X) (own 
   pub back : new.back ≡ old.back
   pub handed_out : new.handed_out + 1 ≡ old.handed_out
   pub faults : new.faults ≡ more_faults old.faults own
-
--- ---- in memory
-
-pub record LinkList (L X : Type 0) : Type 0 where
-  -- the lanes and the dials to come, the next one first
-  pub lanes : List (Listening L)
-  pub dials : List (Dial X)
-  -- what was given back, the newest first
-  pub back : List L
-  pub back_out : List X
-  pub handed_out : ℕ
-  pub failing : Failures
-  pub faults : ℕ
-
-abbrev pub link_state : {L X : Type 0} → LinkList L X → LinkState L X
-link_state link = record {
-  lanes = Some link.lanes;
-  dials = Some link.dials;
-  back = Some link.back;
-  back_out = Some link.back_out;
-  handed_out = link.handed_out;
-  faults = link.faults;
-}
-
--- a link that hands out these, and whose calls of these numbers are to fail
-abbrev pub new_link : {L X : Type 0} → List (Listening L) → List (Dial X) → List ℕ → LinkList L X
-new_link lanes dials failing = record {
-  lanes = lanes;
-  dials = dials;
-  back = [];
-  back_out = [];
-  handed_out = 0;
-  failing = record { numbers = failing; calls = 0 };
-  faults = 0;
-}
-
--- a call fails that is to fail, or finds fewer lanes than it asks for
-abbrev pub listen_fails : {L X : Type 0} → LinkList L X → ℕ → Bool
-listen_fails link stripes = fails_next link.failing || nat_lt (length link.lanes) stripes
 
 -- the next dial is one to this address
 abbrev pub IsDialTo : {X : Type 0} → HostPort → List (Dial X) → Type 0

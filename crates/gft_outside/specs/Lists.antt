@@ -14,6 +14,9 @@ pub record Failures : Type 0 where
 abbrev pub fails_next : Failures → Bool
 fails_next failing = list_any (λ number. number == one_more failing.calls) failing.numbers
 
+abbrev pub counted : Failures → Failures
+counted failing = record failing { calls = one_more failing.calls }
+
 -- a call was counted, and it failed where it was to
 abbrev pub FailsBy : {T E : Type 0} → Failures → Failures → Result T E → Type 0
 FailsBy old new (Ok value) = (new ≡ record old { calls = one_more old.calls }) × (fails_next old ≡ false)

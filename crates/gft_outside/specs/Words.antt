@@ -10,10 +10,13 @@ pub use Rattle.gft_outside.specs.LaneInputs.{AreInTurn, Came, Channels, Ended, I
 pub use Rattle.gft_outside.specs.LaneInputs.{Silence, channels_after, is_live, no_channels, without}
 pub use Rattle.gft_outside.specs.LaneScripts.{LaneList, front_in_turn, lane_inputs, lane_state, new_lane}
 pub use Rattle.gft_outside.specs.LaneStates.{EventFits, Gives, LaneEnds, LaneState, ends_lane, given_by}
-pub use Rattle.gft_outside.specs.Links.{Deals, Dialled, HandsOut, IsDialTo, IsNewLane, IsNewOutLane, LinkList}
-pub use Rattle.gft_outside.specs.Links.{LinkState, NotDialled, NotHandedOut, TakesBack, TakesBackOut}
-pub use Rattle.gft_outside.specs.Links.{link_state, listen_fails, more_faults, new_link}
-pub use Rattle.gft_outside.specs.Lists.{Failures, FailsBy, Script, fails_next}
+pub use Rattle.gft_outside.specs.Links.{Deals, Dialled, HandsOut, IsDialTo, IsNewLane, IsNewOutLane, LinkState}
+pub use Rattle.gft_outside.specs.Links.{NotDialled, NotHandedOut, TakesBack, TakesBackOut, more_faults}
+pub use Rattle.gft_outside.specs.Lists.{Failures, FailsBy, Script, counted, fails_next}
+pub use Rattle.gft_outside.specs.MemoryLinks.{DialsBy, LinkList, ListensBy, TakesIn, TakesOut, has_unused_lane}
+pub use Rattle.gft_outside.specs.MemoryLinks.{has_unused_out, link_state, listen_fails, new_link}
+pub use Rattle.gft_outside.specs.MemoryShelves.{FindsIn, IsMadeOn, Making, MakesIn, RemovesIn, ShelfList}
+pub use Rattle.gft_outside.specs.MemoryShelves.{drive_under, is_under, new_shelf, shelf_state, without_name}
 pub use Rattle.gft_outside.specs.OutLanes.{OutLaneList, OutLaneState, PutsBy, PutsOut, new_out_lane}
 pub use Rattle.gft_outside.specs.OutLanes.{out_lane_state, put_fails, put_takes}
 pub use Rattle.gft_outside.specs.Shelves.{CountsShelf, FindsDrive, FindsNone, HasUnder, IsNewDrive, MakesDrive}

@@ -27,6 +27,13 @@ impl Failing {
         Failing { numbers, calls: 0 }
     }
 
+    /// How many calls there were.
+    pub(crate) fn calls(&self) -> u64
+        ensures { result ≡ self.now.calls }
+    {
+        self.calls
+    }
+
     /// Counts a call, and says whether it fails.
     pub(crate) fn begin(&mut self) -> bool
         ensures fails { result ≡ fails_next self.old }

@@ -1,8 +1,9 @@
-ghost use Rattle.std.specs.Prelude.{◌≡◌, ◌<◌, length, flat_map, IfOk};
+ghost use Rattle.std.specs.Prelude.{◌≡◌, ◌<◌, ◌==◌, true, length, flat_map, IfOk};
 ghost use Rattle.gft_base.specs.Words.{HasCause};
 ghost use Rattle.gft_outside.specs.LaneInputs.{no_channels};
 ghost use Rattle.gft_outside.specs.LaneStates.{Gives, LaneEnds, given_by, EventFits};
 ghost use Rattle.gft_outside.specs.LaneScripts.{front_in_turn, lane_inputs, lane_state, new_lane};
+ghost use Rattle.gft_outside.specs.Links.{IsNewLane};
 ghost use Rattle.gft_outside.specs.Lists.{FailsBy};
 
 use crate::failing::Failing;
@@ -26,7 +27,7 @@ pub struct MemoryLane {
 impl Model for MemoryLane {
     ghost use Rattle.gft_outside.specs.LaneInputs.{AreInTurn, no_channels};
     ghost use Rattle.gft_outside.specs.LaneScripts.{LaneList};
-    ghost use Rattle.std.specs.Prelude.{◌≡◌, true, [], drop, reverse};
+    ghost use Rattle.std.specs.Prelude.{◌≡◌, true, false, [], drop, reverse};
 
     ghost Value = { LaneList };
 
@@ -39,7 +40,8 @@ impl Model for MemoryLane {
 
     ghost invariant = { λ l.
         AreInTurn (reverse l.script.all) no_channels
-        × (l.is_done ≡ true → drop l.script.place l.script.all ≡ []) };
+        × (l.is_done ≡ true → drop l.script.place l.script.all ≡ [])
+        × (l.failing.calls ≡ 0 → (l.script.place ≡ 0) × (l.is_done ≡ false) × (l.faults ≡ 0)) };
 }
 
 impl MemoryLane {
@@ -58,6 +60,21 @@ impl MemoryLane {
             is_done: false,
             faults: Faults::new(),
         }
+    }
+
+    /// Whether no call was made yet.
+    pub(crate) fn is_unused(&self) -> bool
+        ensures unused { result ≡ (self.now.failing.calls == 0) }
+        ensures new { result ≡ true → IsNewLane (lane_state self.now) }
+    {
+        self.failing.calls() == 0
+    }
+
+    /// How often a call failed.
+    pub(crate) fn faults(&self) -> u64
+        ensures { result ≡ self.now.faults }
+    {
+        self.faults.count()
     }
 }
 

@@ -1,5 +1,6 @@
-ghost use Rattle.std.specs.Prelude.{◌≡◌, true, false, IfOk};
+ghost use Rattle.std.specs.Prelude.{◌≡◌, ◌==◌, ◌&&◌, true, false, IfOk};
 ghost use Rattle.gft_base.specs.Words.{HasCause};
+ghost use Rattle.gft_outside.specs.Links.{IsNewOutLane};
 ghost use Rattle.gft_outside.specs.OutLanes.{PutsBy, PutsOut, new_out_lane, out_lane_state};
 
 use crate::failing::Failing;
@@ -19,7 +20,7 @@ pub struct MemoryOutLane {
 }
 
 impl Model for MemoryOutLane {
-    ghost use Rattle.std.specs.Prelude.{◌≤◌, vec_capacity, vec_len};
+    ghost use Rattle.std.specs.Prelude.{◌≡◌, ◌≤◌, [], vec_capacity, vec_len};
     ghost use Rattle.gft_outside.specs.OutLanes.{OutLaneList};
 
     ghost Value = { OutLaneList };
@@ -32,7 +33,8 @@ impl Model for MemoryOutLane {
       faults = o.faults;
     } };
 
-    ghost invariant = { λ o. (vec_len o.bytes ≤ o.room) × (o.room ≤ vec_capacity o.bytes) };
+    ghost invariant = { λ o. (vec_len o.bytes ≤ o.room) × (o.room ≤ vec_capacity o.bytes)
+        × (o.failing.calls ≡ 0 → (o.bytes.items ≡ []) × (o.faults ≡ 0)) };
 }
 
 impl MemoryOutLane {
@@ -62,6 +64,21 @@ impl MemoryOutLane {
         ensures { result ≡ self.now.is_open }
     {
         self.is_open
+    }
+
+    /// Whether no put was made yet, and it wasn't closed.
+    pub(crate) fn is_unused(&self) -> bool
+        ensures unused { result ≡ ((self.now.failing.calls == 0) && self.now.is_open) }
+        ensures new { result ≡ true → IsNewOutLane (out_lane_state self.now) }
+    {
+        self.failing.calls() == 0 && self.is_open
+    }
+
+    /// How often a put failed.
+    pub(crate) fn faults(&self) -> u64
+        ensures { result ≡ self.now.faults }
+    {
+        self.faults.count()
     }
 }
 

@@ -1,7 +1,8 @@
 use super::*;
 use gft_base::Failed;
 use gft_core::Octets;
-use gft_drive::Sink;
+use gft_drive::{CallKind, Drive, FailAt, MemoryDrive, Part, Sink};
+use gft_text::{HostPort, read_name};
 use std::alloc::Global;
 use std::sync::Arc;
 use std::sync::atomic::{AtomicBool, Ordering};
@@ -182,5 +183,132 @@ fn two_threads_take_from_their_lanes(rt: HostRuntime) -> Result<(), Fail> {
     assert_eq!(rt; event, Ok(LaneEvent::Opened(0)));
     assert_eq!(rt; heard, (Ok(Heard::Ended), 5));
     assert!(rt; !out.is_open());
+    Ok(())
+}
+
+fn address(port: u16) -> HostPort {
+    HostPort {
+        host: [127, 0, 0, 1],
+        port,
+    }
+}
+
+// A lane at this port, whose first call fails.
+fn waiting(alloc: Global, port: u16) -> Result<Listening<MemoryLane>, Fail> {
+    let lane = MemoryLane::new(Vec::new(alloc), vec![in alloc; 1]?);
+    let at = address(port);
+    Ok(Listening { at, lane })
+}
+
+// The second call is to fail, and the third asks for more lanes than are to come.
+#[test]
+fn a_link_hands_out_lanes_and_takes_them_back(rt: HostRuntime) -> Result<(), Fail> {
+    let alloc = rt.alloc();
+    let lanes = vec![in alloc; waiting(alloc, 1)?, waiting(alloc, 2)?, waiting(alloc, 3)?]?;
+    let mut link = MemoryLink::new(alloc, lanes, Vec::new(alloc), vec![in alloc; 2]?)?;
+    let mut lanes = link.listen(alloc, 2)?;
+    for stripes in [1, 2] {
+        let refused = link.listen(alloc, stripes).err();
+        assert_eq!(rt; refused, Some(LinkError::Failed), "{stripes}");
+    }
+    assert_eq!(rt; (link.handed_out(), link.faults()), (2, 2));
+    let second = lanes.remove(1);
+    let mut first = lanes.remove(0);
+    assert_eq!(rt; (first.at, second.at), (address(1), address(2)));
+    let mut buf = [0u8; 3];
+    assert_eq!(rt; first.lane.next(&mut buf), Err(Failed));
+    link.back_in(second.lane);
+    link.back_in(first.lane);
+    assert_eq!(rt; (link.handed_out(), link.faults()), (0, 3));
+    assert_eq!(rt; link.lanes_back().len(), 2);
+    assert_eq!(rt; link.listen(alloc, 1)?.remove(0).at, address(3));
+    Ok(())
+}
+
+// The first dial is to another address, the third is to fail, and the last finds none to come.
+#[test]
+fn a_link_dials_and_takes_out_lanes_back(rt: HostRuntime) -> Result<(), Fail> {
+    let alloc = rt.alloc();
+    let out = MemoryOutLane::new(alloc, 5, vec![in alloc; 1]?)?;
+    let at = address(1);
+    let dials = vec![in alloc; Dial { at, out }]?;
+    let mut link = MemoryLink::new(alloc, Vec::new(alloc), dials, vec![in alloc; 3]?)?;
+    assert_eq!(rt; link.dial(&address(2)).err(), Some(Failed));
+    let mut out = link.dial(&at)?;
+    assert_eq!(rt; link.handed_out(), 1);
+    assert_eq!(rt; out.put(b"abc"), Err(Failed));
+    link.back_out(out);
+    for _ in 0..2 {
+        assert_eq!(rt; link.dial(&at).err(), Some(Failed));
+    }
+    assert_eq!(rt; (link.handed_out(), link.faults()), (0, 4));
+    assert_eq!(rt; link.out_lanes_back().len(), 1);
+    Ok(())
+}
+
+// The first lane was called and the first out lane was closed before.
+#[test]
+fn a_link_leaves_out_what_was_used(rt: HostRuntime) -> Result<(), Fail> {
+    let alloc = rt.alloc();
+    let mut used = waiting(alloc, 1)?;
+    let mut buf = [0u8; 3];
+    assert_eq!(rt; used.lane.next(&mut buf), Err(Failed));
+    let mut out = MemoryOutLane::new(alloc, 5, Vec::new(alloc))?;
+    out.close();
+    let lanes = vec![in alloc; used, waiting(alloc, 2)?]?;
+    let dials = vec![in alloc; Dial { at: address(3), out }]?;
+    let mut link = MemoryLink::new(alloc, lanes, dials, Vec::new(alloc))?;
+    assert_eq!(rt; link.listen(alloc, 1)?.remove(0).at, address(2));
+    assert_eq!(rt; link.dial(&address(3)).err(), Some(Failed));
+    Ok(())
+}
+
+// A drive with this label and room.
+fn named(alloc: Global, name: &[u8], room: u64) -> Result<NamedDrive, Fail> {
+    let name = read_name(alloc, name)?;
+    let drive = MemoryDrive::new(alloc, name.as_bytes(), room, 9, &[])?;
+    Ok(NamedDrive::new(name, drive))
+}
+
+// The second call is to fail. Of the drives under `a` the first counts.
+#[test]
+fn a_shelf_hands_out_its_drives(rt: HostRuntime) -> Result<(), Fail> {
+    let alloc = rt.alloc();
+    let drives = vec![in alloc; named(alloc, b"b", 1)?, named(alloc, b"a", 2)?, named(alloc, b"a", 3)?]?;
+    let (a, b) = (read_name(alloc, b"a")?, read_name(alloc, b"b")?);
+    let mut shelf = MemoryShelf::new(drives, 9, 9, Vec::new(alloc), vec![in alloc; 2]?);
+    let Some(mut drive) = shelf.find(alloc, &a)? else {
+        return Err(Failed.into());
+    };
+    assert_eq!(rt; drive.write_at(Part::Bytes, 0, b"ab"), Ok(()));
+    assert_eq!(rt; drive.write_at(Part::Bytes, 2, b"c"), Err(Failed));
+    assert_eq!(rt; shelf.find(alloc, &b).err(), Some(ShelfError::Failed));
+    assert!(rt; shelf.find(alloc, &a)?.is_none());
+    assert_eq!(rt; (shelf.has(&a), shelf.has(&b), shelf.faults()), (false, true, 1));
+    assert_eq!(rt; shelf.remove(&b), Ok(()));
+    assert!(rt; !shelf.has(&b));
+    Ok(())
+}
+
+// The first call is to fail, as is the first length of a drive that is made.
+#[test]
+fn a_shelf_makes_drives(rt: HostRuntime) -> Result<(), Fail> {
+    let alloc = rt.alloc();
+    let drives = vec![in alloc; named(alloc, b"a", 1)?]?;
+    let name = read_name(alloc, b"a")?;
+    let first = FailAt {
+        call: CallKind::Len,
+        part: Part::Bytes,
+        number: 1,
+    };
+    let mut shelf = MemoryShelf::new(drives, 2, 2, vec![in alloc; first]?, vec![in alloc; 1]?);
+    assert_eq!(rt; shelf.make(alloc, &name).err(), Some(ShelfError::Failed));
+    assert!(rt; shelf.has(&name));
+    let mut drive = shelf.make(alloc, &name)?;
+    assert!(rt; !shelf.has(&name));
+    assert_eq!(rt; drive.len(Part::Bytes), Err(Failed));
+    assert_eq!(rt; drive.len(Part::Bytes), Ok(0));
+    assert_eq!(rt; drive.len(Part::Ranges), Err(Failed));
+    assert_eq!(rt; shelf.remove(&name), Ok(()));
     Ok(())
 }

@@ -1,0 +1,87 @@
+-- The first of a list that passes a test, and the list without those that do.
+use Rattle.std.proofs.Common.{◌≡◌, ℕ, zero, suc, inl, inr, ◌+◌, ◌<◌, ◌≤◌, Bool, true, false, not, cond, ltb, if◌then◌else◌, List, [], ◌∷◌, ◌++◌, length, get_or, set, take, drop, Option, None, Some, refl, sym, ap, ◌∙◌, arith}
+use Rattle.std.specs.List.{filter, find, position, position_or_len, remove}
+use Rattle.std.proofs.lemmas.Bool.{cases_lt, lt-ltb}
+use Rattle.std.proofs.lemmas.List.Quantifiers.{position-Some}
+
+module _ {X : Type 0} (p : X → Bool) where
+  -- the test fails
+  abbrev pub fails_at : X → Bool
+  fails_at x = not (p x)
+
+  behind : (xs : List X) → length xs ≤ position_or_len p xs → (find p xs ≡ None) × (filter fails_at xs ≡ xs)
+  behind [] le = (refl, refl)
+  behind (x ∷ xs) le = step (p x) refl
+    where
+      step : (b : Bool) → p x ≡ b → (cond (p x) (Some x) (find p xs) ≡ None) × ((if not (p x) then x ∷ filter fails_at xs else filter fails_at xs) ≡ x ∷ xs)
+      step true e = absurd (omega (arith, le, ap (λ (c : Bool). cond c 0 (1 + position_or_len p xs)) e))
+      step false e =
+          let rest = behind xs (omega (arith, le, ap (λ (c : Bool). cond c 0 (1 + position_or_len p xs)) e)) in
+          (ap (λ (c : Bool). cond c (Some x) (find p xs)) e ∙ rest.0,
+          ap (λ (c : Bool). if not c then x ∷ filter fails_at xs else filter fails_at xs) e ∙ ap (λ (l : List X). x ∷ l) rest.1)
+
+  some_none : (n m : ℕ) → cond (ltb n m) (Some n) None ≡ None → m ≤ n
+  some_none n m e = elim (cases_lt n m) [
+    | inl lt ↦ absurd (let is = ap (λ (c : Bool). cond c (Some n) None) (lt-ltb n m lt) in cc)
+    | inr le ↦ le
+  ]
+
+  -- none passes
+  pub nowhere : (xs : List X) → position p xs ≡ None → (find p xs ≡ None) × (filter fails_at xs ≡ xs)
+  nowhere xs e = behind xs (some_none (position_or_len p xs) (length xs) e)
+
+  at_first : (xs : List X) (at : ℕ) (d : X) → at < length xs → p (get_or xs at d) ≡ true → ((k : ℕ) → k < at → p (get_or xs k d) ≡ false)
+      → (find p xs ≡ Some (get_or xs at d)) × (filter fails_at (remove xs at) ≡ filter fails_at xs)
+  at_first [] at d lt is before = absurd (omega arith)
+  at_first (x ∷ xs) zero d lt is before =
+      (ap (λ (c : Bool). cond c (Some x) (find p xs)) is,
+      sym (ap (λ (c : Bool). if not c then x ∷ filter fails_at xs else filter fails_at xs) is))
+  at_first (x ∷ xs) (suc at) d lt is before =
+      let here : p x ≡ false = before 0 (omega arith) in
+      let rest = at_first xs at d (omega arith) is (λ k le. before (suc k) (omega arith)) in
+      (ap (λ (c : Bool). cond c (Some x) (find p xs)) here ∙ rest.0,
+      ap (λ (c : Bool). if not c then x ∷ filter fails_at (remove xs at) else filter fails_at (remove xs at)) here
+      ∙ ap (λ (l : List X). x ∷ l) rest.1
+      ∙ sym (ap (λ (c : Bool). if not c then x ∷ filter fails_at xs else filter fails_at xs) here))
+
+  -- the first that passes stands there
+  pub first_there : (xs : List X) (at : ℕ) (d : X) → position p xs ≡ Some at
+      → (at < length xs) × (find p xs ≡ Some (get_or xs at d)) × (filter fails_at (remove xs at) ≡ filter fails_at xs)
+  first_there xs at d e =
+      let there = position-Some p xs at d e in
+      let is = at_first xs at d there.0 there.1 there.2 in
+      (there.0, is.0, is.1)
+
+  -- what is left has none that passes
+  pub find_left : (xs : List X) → find p (filter fails_at xs) ≡ None
+  find_left [] = refl
+  find_left (x ∷ xs) = step (p x) refl
+    where
+      step : (b : Bool) → p x ≡ b → find p (if not b then x ∷ filter fails_at xs else filter fails_at xs) ≡ None
+      step true e = find_left xs
+      step false e = ap (λ (c : Bool). cond c (Some x) (find p (filter fails_at xs))) e ∙ find_left xs
+
+  -- and the first that passes another test, which none that is left out passes, stays
+  pub find_other : (q : X → Bool) → ((x : X) → p x ≡ true → q x ≡ false) → (xs : List X) → find q (filter fails_at xs) ≡ find q xs
+  find_other q apart [] = refl
+  find_other q apart (x ∷ xs) = step (p x) refl
+    where
+      step : (b : Bool) → p x ≡ b → find q (if not b then x ∷ filter fails_at xs else filter fails_at xs) ≡ cond (q x) (Some x) (find q xs)
+      step true e = find_other q apart xs ∙ sym (ap (λ (c : Bool). cond c (Some x) (find q xs)) (apart x e))
+      step false e = ap (λ (l : Option X). cond (q x) (Some x) l) (find_other q apart xs)
+
+  -- what is found passes
+  pub found_passes : (xs : List X) (x : X) → find p xs ≡ Some x → p x ≡ true
+  found_passes [] x e = cc
+  found_passes (y ∷ ys) x e = step (p y) refl e
+    where
+      step : (b : Bool) → p y ≡ b → cond b (Some y) (find p ys) ≡ Some x → p x ≡ true
+      step true h e = let same : y ≡ x = cc in ap p (sym same) ∙ h
+      step false h e = found_passes ys x e
+
+  -- another in a place: it is found where the first one was that passed
+  pub find_put : (xs : List X) (at : ℕ) (y d : X) → at < length xs → p (get_or xs at d) ≡ false → p y ≡ false → find p (set xs at y) ≡ find p xs
+  find_put [] at y d lt was now = absurd (omega arith)
+  find_put (x ∷ xs) zero y d lt was now =
+      ap (λ (c : Bool). cond c (Some y) (find p xs)) now ∙ sym (ap (λ (c : Bool). cond c (Some x) (find p xs)) was)
+  find_put (x ∷ xs) (suc at) y d lt was now = ap (λ (l : Option X). cond (p x) (Some x) l) (find_put xs at y d (omega arith) was now)
