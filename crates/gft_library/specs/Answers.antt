@@ -51,18 +51,18 @@ RefusesRemoving error.ShelfFailed = Unit {0}
 RefusesRemoving error.OutOfMemory = Unit {0}
 RefusesRemoving other = ⊥
 
--- a call that hands something out answers refusals alone
-abbrev pub IsRefusal : (LibraryError → Type 0) → Word → Type 0
-IsRefusal refuses (word.No why) = refuses why
-IsRefusal refuses other = ⊥
+-- the word is a refusal, for this; a call that hands something out answers no other
+abbrev pub RefusedWith : Word → (LibraryError → Type 0) → Type 0
+RefusedWith (word.No why) shows = shows why
+RefusedWith other shows = ⊥
 
 abbrev pub Answers : LibraryCall → Word → Type 0
 Answers Sizes (word.Length len) = Unit {0}
-Answers Sizes other = IsRefusal RefusesReading other
+Answers Sizes other = RefusedWith other RefusesReading
 Answers Removes word.Removed = Unit {0}
-Answers Removes other = IsRefusal RefusesRemoving other
-Answers (Stores how) other = IsRefusal (RefusesStoring how) other
-Answers Retrieves other = IsRefusal RefusesReading other
+Answers Removes other = RefusedWith other RefusesRemoving
+Answers (Stores how) other = RefusedWith other (RefusesStoring how)
+Answers Retrieves other = RefusedWith other RefusesReading
 
 -- the answer names the name, or is want of memory
 abbrev pub IsFor : List ℕ → NamedWord → Type 0

@@ -1,5 +1,5 @@
--- How the Book of a name comes to hand, and why it doesn't.
-use Rattle.std.specs.Prelude.{◌≡◌, ◌⊎◌, ◌<◌, ℕ, List, [], length, Option, None, Some, MatchOption}
+-- How the Book of a name comes to hand in a call, and why it doesn't.
+use Rattle.std.specs.Prelude.{◌≡◌, ◌⊎◌, ◌<◌, ℕ, List, [], length, Some, None}
 use Rattle.gft_drive.specs.Words.{DriveState}
 use Rattle.gft_keep.specs.declared.AttachError.{AttachError}
 use Rattle.gft_keep.specs.declared.AttachError.TheVariants as attach
@@ -13,9 +13,10 @@ use Rattle.gft_outside.specs.declared.shelf.ShelfError.{ShelfError}
 use Rattle.gft_outside.specs.declared.shelf.ShelfError.TheVariants as shelf
 use Rattle.gft_outside.specs.Words.{FindsDrive, FindsNone, MakesDrive, NotFound, NotMade, ShelfState}
 use Rattle.gft_library.specs.declared.TheConstants.{MAX_NAMES}
+use Rattle.gft_library.specs.declared.holding.Holding.TheVariants.{AtHand, HandedOut, Unread}
 use Rattle.gft_library.specs.declared.error.LibraryError.{LibraryError}
 use Rattle.gft_library.specs.declared.error.LibraryError.TheVariants as error
-use Rattle.gft_library.specs.Kept.{AtHand, HandedOut, Holding, KeptName, NamesSeen, OthersStay, Unread, kept_under}
+use Rattle.gft_library.specs.Kept.{NamesSeen, kept_under}
 
 -- ---- refusals of what stands below, as the library names them
 
@@ -38,115 +39,134 @@ abbrev pub of_shelf : ShelfError → LibraryError
 of_shelf shelf.Failed = error.ShelfFailed
 of_shelf shelf.OutOfMemory = error.OutOfMemory
 
--- ---- the states of a shelf and of its drives, by the traits of their types
+-- ---- a call about a name
 
-pub record Traits (D S : Type 0) : Type 1 where
-  pub drive : D → DriveState
-  pub shelf : S → ShelfState D
+-- the names before and after, and how the traits of their types see a drive and a shelf
+pub record Asked (D O S : Type 0) : Type 1 where
+  pub drive_state : D → DriveState
+  pub shelf_state : S → ShelfState D
+  pub old : NamesSeen D O S
+  pub new : NamesSeen D O S
+  pub name : List ℕ
 
--- ---- a drive is there
+abbrev pub asked : {D O S : Type 0} → (D → DriveState) → (S → ShelfState D) → NamesSeen D O S → NamesSeen D O S
+    → List ℕ → Asked D O S
+asked drive_state shelf_state old new name = record {
+  drive_state = drive_state;
+  shelf_state = shelf_state;
+  old = old;
+  new = new;
+  name = name;
+}
 
--- a drive that isn't attached: it is kept, or the shelf has it
-abbrev pub HasDrive : {D S : Type 0} → Traits D S → NamesSeen D S → S → List ℕ → D → Type 0
-HasDrive of old now name drive =
-    ((kept_under old.kept name ≡ Some (Unread drive)) × (now ≡ old.shelf))
-    ⊎ ((kept_under old.kept name ≡ None) × (length old.kept < MAX_NAMES)
-    × FindsDrive (of.drive drive) (of.shelf old.shelf) (of.shelf now) name drive)
+-- nothing is kept under the name, though there is room for it
+record IsNowhere {D O S : Type 0} (call : Asked D O S) : Type 0 where
+  pub none : kept_under call.old.kept call.name ≡ None
+  pub room : length call.old.kept < MAX_NAMES
 
--- the name was nowhere, and the shelf made it
-record IsMade {D S : Type 0} (of : Traits D S) (old : NamesSeen D S) (now : S) (name : List ℕ) (drive : D)
-    : Type 0 where
-  pub none : kept_under old.kept name ≡ None
-  pub room : length old.kept < MAX_NAMES
-  pub asked : S
-  pub absent : FindsNone (of.shelf old.shelf) (of.shelf asked) name
-  pub made : MakesDrive (of.drive drive) (of.shelf asked) (of.shelf now) name
+-- a drive that isn't attached: it is kept, or the shelf, which is so then, had it
+abbrev pub HasDrive : {D O S : Type 0} → Asked D O S → S → D → Type 0
+HasDrive call now drive =
+    ((kept_under call.old.kept call.name ≡ Some (Unread drive)) × (now ≡ call.old.shelf))
+    ⊎ (IsNowhere call × FindsDrive (call.drive_state drive) (call.shelf_state call.old.shelf)
+    (call.shelf_state now) call.name drive)
+
+-- the name was nowhere, and the shelf, which is so then, made it
+record IsMade {D O S : Type 0} (call : Asked D O S) (now : S) (drive : D) : Type 0 where
+  pub nowhere : IsNowhere call
+  pub before : S
+  pub absent : FindsNone (call.shelf_state call.old.shelf) (call.shelf_state before) call.name
+  pub made : MakesDrive (call.drive_state drive) (call.shelf_state before) (call.shelf_state now) call.name
 
 -- a Book on which nothing was begun, over a drive that was attached now
-record IsOpenedOn {D S : Type 0} (of : Traits D S) (drive : D) (book : Seen D) : Type 0 where
-  pub attached : Attached (of.drive drive) (keep_of of.drive book.keep)
-  pub new : book ≡ record { keep = book.keep; stage = Rest; last = None; marks = []; unmarked = 0; turns = 0 }
+record IsOpenedOn {D : Type 0} (state : D → DriveState) (drive : D) (book : Seen D) : Type 0 where
+  pub attached : Attached (state drive) (keep_of state book.keep)
+  pub untouched : book ≡ record {
+    keep = book.keep;
+    stage = Rest;
+    last = None;
+    marks = [];
+    unmarked = 0;
+    turns = 0;
+  }
 
 -- ---- the Book is at hand
 
 -- it was, or its drive was attached now
-abbrev pub ComesToHand : {D S : Type 0} → Traits D S → NamesSeen D S → S → List ℕ → Seen D → Type 0
-ComesToHand of old now name book =
-    ((kept_under old.kept name ≡ Some (AtHand book)) × (now ≡ old.shelf))
-    ⊎ ((drive : _) × HasDrive of old now name drive × IsOpenedOn of drive book)
+abbrev pub ComesToHand : {D O S : Type 0} → Asked D O S → Seen D → Type 0
+ComesToHand {D = D} call book =
+    ((kept_under call.old.kept call.name ≡ Some (AtHand book)) × (call.new.shelf ≡ call.old.shelf))
+    ⊎ ((drive : D) × HasDrive call call.new.shelf drive × IsOpenedOn call.drive_state drive book)
 
--- a call that makes what is nowhere
-abbrev pub ComesToHandOrIsMade : {D S : Type 0} → Traits D S → NamesSeen D S → S → List ℕ → Seen D → Type 0
-ComesToHandOrIsMade of old now name book =
-    ComesToHand of old now name book
-    ⊎ ((drive : _) × IsMade of old now name drive × IsOpenedOn of drive book)
+-- or the shelf made it
+abbrev pub ComesOrIsMade : {D O S : Type 0} → Asked D O S → Seen D → Type 0
+ComesOrIsMade {D = D} call book =
+    ComesToHand call book
+    ⊎ ((drive : D) × IsMade call call.new.shelf drive × IsOpenedOn call.drive_state drive book)
 
 -- ---- it isn't
 
+-- want of memory before anything was done
+abbrev pub IsWant : {D O S : Type 0} → Asked D O S → LibraryError → Type 0
+IsWant call why = (why ≡ error.OutOfMemory) × (call.new ≡ call.old)
+
+-- the Book is handed out
+abbrev pub IsHandedOut : {D O S : Type 0} → Asked D O S → LibraryError → Type 0
+IsHandedOut call why =
+    (kept_under call.old.kept call.name ≡ Some HandedOut) × (why ≡ error.Busy Storing) × (call.new ≡ call.old)
+
+-- as many names are kept as may be, and this is none of them
+abbrev pub IsOneTooMany : {D O S : Type 0} → Asked D O S → LibraryError → Type 0
+IsOneTooMany call why =
+    (kept_under call.old.kept call.name ≡ None) × (length call.old.kept ≡ MAX_NAMES)
+    × (why ≡ error.TooManyNames) × (call.new ≡ call.old)
+
 -- a drive could not be attached, and is kept
-record IsNotOpened {D S : Type 0} (of : Traits D S) (kept : List (KeptName D)) (name : List ℕ) (drive : D)
-    (why : LibraryError) : Type 0 where
+record IsNotOpened {D O S : Type 0} (call : Asked D O S) (drive : D) (why : LibraryError) : Type 0 where
   pub error : AttachError
   pub is : why ≡ of_attach error
   pub later : D
-  pub refused : NotAttached (of.drive drive) error (of.drive later)
-  pub stays : kept_under kept name ≡ Some (Unread later)
+  pub refused : NotAttached (call.drive_state drive) error (call.drive_state later)
+  pub stays : kept_under call.new.kept call.name ≡ Some (Unread later)
 
--- the shelf refuses to look for the name, or has none
-record HasNone {D S : Type 0} (of : Traits D S) (old new : NamesSeen D S) (name : List ℕ)
-    (absent why : LibraryError) : Type 0 where
-  pub none : kept_under old.kept name ≡ None
-  pub room : length old.kept < MAX_NAMES
-  pub kept : new.kept ≡ old.kept
-  pub answer : ((error : ShelfError) × (why ≡ of_shelf error)
-      × NotFound (of.shelf old.shelf) (of.shelf new.shelf) name error)
-      ⊎ ((why ≡ absent) × FindsNone (of.shelf old.shelf) (of.shelf new.shelf) name)
-
--- as many names are kept as may be, and this is none of them
-record IsOneTooMany {D S : Type 0} (old new : NamesSeen D S) (name : List ℕ) (why : LibraryError)
-    : Type 0 where
-  pub none : kept_under old.kept name ≡ None
-  pub full : length old.kept ≡ MAX_NAMES
-  pub is : why ≡ error.TooManyNames
-  pub unchanged : new ≡ old
-
--- want of memory before anything was done
-abbrev pub IsWant : {D S : Type 0} → NamesSeen D S → NamesSeen D S → LibraryError → Type 0
-IsWant old new why = (why ≡ error.OutOfMemory) × (new ≡ old)
-
--- the Book is handed out
-abbrev pub IsHandedOut : {D S : Type 0} → NamesSeen D S → NamesSeen D S → List ℕ → LibraryError → Type 0
-IsHandedOut old new name why =
-    (kept_under old.kept name ≡ Some HandedOut) × (why ≡ error.Busy Storing) × (new ≡ old)
-
--- why the Book of a name that is to be there doesn't come to hand
-abbrev pub IsKeptFrom : {D S : Type 0} → Traits D S → NamesSeen D S → NamesSeen D S → List ℕ → LibraryError
-    → LibraryError → Type 0
-IsKeptFrom of old new name absent why =
-    IsWant old new why ⊎ IsHandedOut old new name why ⊎ IsOneTooMany old new name why
-    ⊎ HasNone of old new name absent why
-    ⊎ ((drive : _) × HasDrive of old new.shelf name drive × IsNotOpened of new.kept name drive why)
-
--- the shelf was to make the name, and refused; or it made it, and the drive could not be attached
-record IsNotMade {D S : Type 0} (of : Traits D S) (old new : NamesSeen D S) (name : List ℕ) (why : LibraryError)
-    : Type 0 where
-  pub none : kept_under old.kept name ≡ None
-  pub room : length old.kept < MAX_NAMES
-  pub asked : S
-  pub absent : FindsNone (of.shelf old.shelf) (of.shelf asked) name
-  pub kept : new.kept ≡ old.kept
+-- the shelf refused to look for the name
+record IsNotLooked {D O S : Type 0} (call : Asked D O S) (why : LibraryError) : Type 0 where
+  pub nowhere : IsNowhere call
   pub error : ShelfError
   pub is : why ≡ of_shelf error
-  pub refused : NotMade of.drive (of.shelf asked) (of.shelf new.shelf) name error
+  pub refused : NotFound (call.shelf_state call.old.shelf) (call.shelf_state call.new.shelf) call.name error
+  pub kept : call.new.kept ≡ call.old.kept
 
--- why the Book doesn't come to hand in a call that makes what is nowhere
-abbrev pub IsKeptFromMaking : {D S : Type 0} → Traits D S → NamesSeen D S → NamesSeen D S → List ℕ
-    → LibraryError → Type 0
-IsKeptFromMaking of old new name why =
-    IsWant old new why ⊎ IsHandedOut old new name why ⊎ IsOneTooMany old new name why
-    ⊎ ((asked : ShelfError) × (kept_under old.kept name ≡ None) × (length old.kept < MAX_NAMES)
-    × (new.kept ≡ old.kept) × (why ≡ of_shelf asked)
-    × NotFound (of.shelf old.shelf) (of.shelf new.shelf) name asked)
-    ⊎ IsNotMade of old new name why
-    ⊎ ((drive : _) × (HasDrive of old new.shelf name drive ⊎ IsMade of old new.shelf name drive)
-    × IsNotOpened of new.kept name drive why)
+-- the shelf has no such name: the call is refused for that, with this
+record IsAbsent {D O S : Type 0} (call : Asked D O S) (absent why : LibraryError) : Type 0 where
+  pub nowhere : IsNowhere call
+  pub is : why ≡ absent
+  pub found : FindsNone (call.shelf_state call.old.shelf) (call.shelf_state call.new.shelf) call.name
+  pub kept : call.new.kept ≡ call.old.kept
+
+-- the shelf has no such name, and refused to make it
+record IsNotMade {D O S : Type 0} (call : Asked D O S) (why : LibraryError) : Type 0 where
+  pub nowhere : IsNowhere call
+  pub before : S
+  pub absent : FindsNone (call.shelf_state call.old.shelf) (call.shelf_state before) call.name
+  pub error : ShelfError
+  pub is : why ≡ of_shelf error
+  pub refused : NotMade call.drive_state (call.shelf_state before) (call.shelf_state call.new.shelf) call.name error
+  pub kept : call.new.kept ≡ call.old.kept
+
+-- before a drive is there
+abbrev pub IsBarred : {D O S : Type 0} → Asked D O S → LibraryError → Type 0
+IsBarred call why = IsWant call why ⊎ IsHandedOut call why ⊎ IsOneTooMany call why ⊎ IsNotLooked call why
+
+-- why the Book doesn't come to hand, where a name that is nowhere is refused with `absent`
+abbrev pub IsKeptFrom : {D O S : Type 0} → Asked D O S → (absent why : LibraryError) → Type 0
+IsKeptFrom {D = D} call absent why =
+    IsBarred call why ⊎ IsAbsent call absent why
+    ⊎ ((drive : D) × HasDrive call call.new.shelf drive × IsNotOpened call drive why)
+
+-- the same where a name that is nowhere is made
+abbrev pub IsKeptFromMaking : {D O S : Type 0} → Asked D O S → LibraryError → Type 0
+IsKeptFromMaking {D = D} call why =
+    IsBarred call why ⊎ IsNotMade call why
+    ⊎ ((drive : D) × (HasDrive call call.new.shelf drive ⊎ IsMade call call.new.shelf drive)
+    × IsNotOpened call drive why)

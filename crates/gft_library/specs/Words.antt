@@ -3,3 +3,4 @@ pub use Rattle.gft_library.specs.Answers.{Answers, IsFor, LibraryCall, NamedWord
 pub use Rattle.gft_library.specs.Answers.{TakesAnswer, word_of_file}
 pub use Rattle.gft_library.specs.Calls.{BeginsTransfer, IsOfLastTransfer, LendsFile}
 pub use Rattle.gft_library.specs.Kept.{DriveIsFrom, ShelfIsFrom}
+pub use Rattle.gft_library.specs.Tallies.{TallyList, new_tally, takes_answer, told_by}

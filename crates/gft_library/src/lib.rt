@@ -9,6 +9,7 @@
 mod answer;
 mod entry;
 mod error;
+mod holding;
 mod library;
 mod names;
 mod opening;

@@ -1,15 +1,18 @@
-ghost use Rattle.std.specs.Prelude.{◌≡◌, ◌↔◌, ◌≤◌, ◌×◌, ◌<◌, ℕ, length, IfErr, IfOk, IsSome, MatchOption, MatchResult};
+ghost use Rattle.std.specs.Prelude.{◌≡◌, ◌≤◌, [], IfErr, IfOk, IfSome, MatchOption, MatchResult, option_map, Some};
 ghost use Rattle.gft_drive.specs.Words.{sent_by};
 ghost use Rattle.gft_keep.specs.Words.{keep_of};
 ghost use Rattle.gft_book.specs.declared.transfer.Stage.TheVariants.{Rest};
-ghost use Rattle.gft_book.specs.Words.{NamesSome, book_of};
-ghost use Rattle.gft_library.specs.Answers.{IsFor, word_of_file};
-ghost use Rattle.gft_library.specs.Calls.*;
-ghost use Rattle.gft_library.specs.Kept.*;
+ghost use Rattle.gft_book.specs.Words.{NamesSome};
+ghost use Rattle.gft_library.specs.Answers.{IsFor, RefusedWith, word_of_file};
+ghost use Rattle.gft_library.specs.Calls.{ByBook, EndsReader, HasNoDrive, IsKeptDrive, IsNotRead, IsNotStored};
+ghost use Rattle.gft_library.specs.Calls.{IsOfLastTransfer, LendsFile, RemovesOrNot, SizesName, StoresName};
+ghost use Rattle.gft_library.specs.Calls.{TakesBookBack};
+ghost use Rattle.gft_library.specs.Finding.{ComesToHand, asked};
+ghost use Rattle.gft_library.specs.Kept.{OthersStay, ShelfIsFrom};
 
 use crate::answer::{Answer, Word};
-use crate::entry::{Entry, Place};
-use crate::error::LibraryError;
+use crate::entry::KeptName;
+use crate::opening::place_of;
 use gft_book::{Book, Finished, How, Reading};
 use gft_drive::{Drive, Origin};
 use gft_outside::Shelf;
@@ -18,78 +21,179 @@ use gft_text::Name;
 use std::alloc::Global;
 use std::marker::Model;
 
-/// A Book that is handed out to a transfer that it runs, and the transfer's passes.
+/// A Book that is handed out for a transfer that it runs, and the transfer's passes.
 #[derive(Drop)]
 pub struct Storing<D: Drive + Drop, O: Origin> {
     pub book: Book<D, O>,
     pub passes: Vec<Pass>,
 }
 
-/// The files by their names, each with its Book. Other names are left as they are by every call.
+/// The files by their names, each with its Book. Every call leaves all names but its own as they are.
 ///
 /// A name that isn't kept is looked for on the shelf. A drive that can't be attached is kept, and attached
-/// again by the next call. Refusals come in this order: want of memory for the name; `TooManyNames`; those of
-/// the shelf; those of the Book.
+/// again in the next call. A call is refused for the first of these: want of memory for the name; `Busy` if
+/// the Book is handed out; `TooManyNames` if [`MAX_NAMES`](crate::MAX_NAMES) names are kept and this isn't
+/// one; what the shelf refuses; what attaching the drive refuses; what the Book refuses.
 #[derive(Drop)]
 pub struct Names<S: Shelf + Drop, O: Origin> {
     pub(crate) alloc: Global,
     pub(crate) shelf: S,
-    pub(crate) entries: Vec<Entry<S::D, O>>,
+    pub(crate) entries: Vec<KeptName<S::D, O>>,
+}
+
+impl<S: Shelf + Drop, O: Origin> Model for Names<S, O> {
+    ghost use Rattle.gft_drive.specs.Words.{sent_by};
+    ghost use Rattle.gft_library.specs.Kept.{AreNames, NamesSeen};
+
+    ghost Value = { NamesSeen S.D O S };
+
+    ghost view = { λ n. record { shelf = n.shelf; kept = n.entries.items } };
+
+    ghost invariant = { λ n. AreNames S.D.state S.state (sent_by O.source O.orders O.fit) (record {
+      shelf = n.shelf;
+      kept = n.entries.items;
+    }) };
 }
 
 impl<S: Shelf + Drop, O: Origin> Names<S, O> {
-    /// No name is kept. If the origin names a source for a label, what the shelf has under it is the source's.
+    /// No name is kept. If the origin names a source for a label, what the shelf has under it is the
+    /// source's.
     pub fn new(alloc: Global, shelf: S) -> Self
         requires origin { ShelfIsFrom S.D.state (sent_by O.source O.orders O.fit) (S.state shelf) }
-        ensures { result ≡ record { shelf = shelf; kept = [] } };
+        ensures { result ≡ record { shelf = shelf; kept = [] } }
+    {
+        Names {
+            alloc,
+            shelf,
+            entries: Vec::new(alloc),
+        }
+    }
 
-    /// The length of the name's file, or why it can't be read, as `retrieve` says.
+    /// The length in bytes of the name's file. It is refused as [`retrieve`](Names::retrieve) is.
     pub fn size(&mut self, name: &Name) -> Answer<S>
         ensures named { IsFor name.now result }
         ensures others { OthersStay self.old.kept self.new.kept name.now }
-        ensures word { SizesName (traits S) (sent_by ..) self.old self.new name.now result.word };
+        ensures word { SizesName (asked S.D.state S.state self.old self.new name.now)
+            (sent_by O.source O.orders O.fit) result.word }
+    {
+        let Ok(copy) = name.copy() else {
+            return Answer::out_of_memory();
+        };
+        match self.length(name) {
+            Ok(len) => Answer::new(copy, Word::Length(len)),
+            Err(why) => Answer::new(copy, Word::No(why)),
+        }
+    }
 
-    /// Removes the name. `Busy` if its file is in use; `NoSuch` if there is none; `ShelfFailed` if the shelf
-    /// fails: then the library keeps nothing under the name. No drive is attached for it.
+    /// Removes the name with its file; no drive is attached for that. `Busy` if the file is in use; `NoSuch`
+    /// if there is none; `ShelfFailed` if the shelf fails, which then may have the file still: the next call
+    /// looks for it there.
     pub fn remove(&mut self, name: &Name) -> Answer<S>
         ensures named { IsFor name.now result }
-        ensures others { OthersStay .. }
-        ensures word { RemovesOrRefuses (traits) self.old self.new name.now result.word };
+        ensures others { OthersStay self.old.kept self.new.kept name.now }
+        ensures word { RemovesOrNot (asked S.D.state S.state self.old self.new name.now) result.word }
+    {
+        let Ok(copy) = name.copy() else {
+            return Answer::out_of_memory();
+        };
+        match self.take_away(name) {
+            Ok(()) => Answer::new(copy, Word::Removed),
+            Err(why) => Answer::new(copy, Word::No(why)),
+        }
+    }
 
-    /// Hands the name's Book out for a transfer of so many lanes, and makes a file that is nowhere, but not
-    /// for a restart: that lacks the first range of its list then. Refusals are those of the Book's
-    /// `begin_store` beside those of finding it.
-    pub fn store(&mut self, name: &Name, how: How, lanes: u16) -> Result<Storing<S::D, O>, Answer<S>>
+    /// Hands the name's Book out for a transfer of 1 to 16 lanes, which begins on it. A name that is nowhere
+    /// is made; but a restart is refused then, with `NotInJournal` and its list's first range. The Book
+    /// refuses as its `begin_store` says.
+    pub fn store(
+        &mut self,
+        name: &Name,
+        how: How,
+        lanes: u16,
+    ) -> Result<Storing<S::D, O>, Answer<S>>
         requires lanes { (1 ≤ lanes) × (lanes ≤ 16) }
         requires list { NamesSome how }
+        ensures label { IfOk result (λ storing. (keep_of S.D.state storing.book.keep).drive.label ≡ name.now) }
         ensures named { IfErr result (IsFor name.now) }
-        ensures others { OthersStay .. }
-        ensures stored { MatchResult result (λ storing. StoresName of how self.old self.new name.now (λ book. BeginsTransfer S.D.state how lanes storing.passes.items book storing.book)) (λ answer. answer.word is No why with IsNotStored) }
-        ensures label { IfOk result (λ storing. (keep_of S.D.state storing.book.keep).drive.label ≡ name.now) };
+        ensures others { OthersStay self.old.kept self.new.kept name.now }
+        ensures stores { MatchResult result
+            (λ storing. StoresName (asked S.D.state S.state self.old self.new name.now) how lanes
+                storing.passes.items storing.book)
+            (λ answer. RefusedWith answer.word
+                (IsNotStored (asked S.D.state S.state self.old self.new name.now) how)) }
+    {
+        let Ok(copy) = name.copy() else {
+            return Err(Answer::out_of_memory());
+        };
+        match self.begin(name, how, lanes) {
+            Ok(storing) => Ok(storing),
+            Err(why) => Err(Answer::new(copy, Word::No(why))),
+        }
+    }
 
     /// Takes the Book of the name back, if it is handed out, and drops it if not. It answers what was
-    /// finished, if something was. It takes no memory.
-    pub fn done_storing(&mut self, name: Name, book: Book<S::D, O>, done: Option<Finished>) -> Option<Answer<S>>
+    /// finished, if anything was: `Stored`, or `Part` for an ESTO. It takes no memory.
+    pub fn done_storing(
+        &mut self,
+        name: Name,
+        book: Book<S::D, O>,
+        done: Option<Finished>,
+    ) -> Option<Answer<S>>
         requires label { (keep_of S.D.state book.keep).drive.label ≡ name }
         requires rest { book.stage ≡ Rest }
         requires of_it { IfSome done (IsOfLastTransfer book.last) }
-        ensures answer { result ≡ map_option done (λ file. record { name = Some name; word = word_of_file file }) }
-        ensures back { TakesBookBack self.old self.new name book }
-        ensures others { OthersStay .. };
+        ensures answer { result ≡ option_map (λ file. record { name = Some name; word = word_of_file file }) done }
+        ensures others { OthersStay self.old.kept self.new.kept name }
+        ensures back { TakesBookBack (asked S.D.state S.state self.old self.new name) book }
+    {
+        self.take_back(&name, book);
+        let file = done?;
+        let word = if file.is_whole() {
+            Word::Stored(file.len())
+        } else {
+            Word::Part(file.len())
+        };
+        Some(Answer::new(name, word))
+    }
 
-    /// Lends so many drives of the name's file, from 1 to 16, to a reader.
+    /// Lends 1 to 16 drives of the name's file to a reader. The Book refuses as its `begin_read` says, and a
+    /// name that is nowhere is refused with `NoSuch`.
     pub fn retrieve(&mut self, name: &Name, drives: u16) -> Result<Reading<S::D>, Answer<S>>
         requires drives { (1 ≤ drives) × (drives ≤ 16) }
         ensures named { IfErr result (IsFor name.now) }
-        ensures others { OthersStay .. }
-        ensures lent { MatchResult result (λ reading. ByBook of self.old self.new name.now (LendsFile S.D.state sent drives reading.drives.items reading.len)) (λ answer. No why with IsNotRead) };
+        ensures others { OthersStay self.old.kept self.new.kept name.now }
+        ensures lends { MatchResult result
+            (λ reading. ByBook (asked S.D.state S.state self.old self.new name.now)
+                (ComesToHand (asked S.D.state S.state self.old self.new name.now))
+                (LendsFile S.D.state (sent_by O.source O.orders O.fit) drives reading.drives.items reading.len))
+            (λ answer. RefusedWith answer.word
+                (IsNotRead (asked S.D.state S.state self.old self.new name.now))) }
+    {
+        let Ok(copy) = name.copy() else {
+            return Err(Answer::out_of_memory());
+        };
+        match self.lend(name, drives) {
+            Ok(reading) => Ok(reading),
+            Err(why) => Err(Answer::new(copy, Word::No(why))),
+        }
+    }
 
-    /// A reader of the name's file has ended. Nothing changes if the Book isn't at hand.
+    /// A reader of the name's file has ended. If the Book isn't at hand, nothing changes.
     pub fn done_reading(&mut self, name: &Name)
-        ensures ended { EndsReader self.old self.new name.now }
-        ensures others { OthersStay .. };
+        ensures others { OthersStay self.old.kept self.new.kept name.now }
+        ensures ends { EndsReader (asked S.D.state S.state self.old self.new name.now) }
+    {
+        if let Some(place) = place_of(&self.entries, name) {
+            self.entries[place].holding.end_read();
+        }
+    }
 
-    /// Gives the drive that is kept under the name, if its file is at rest.
+    /// Gives the drive that is kept under the name, if its file is at rest; the other files are let go.
     pub fn into_drive(self, name: &Name) -> Option<S::D>
-        ensures { MatchOption result (HasNoDrive self.kept name.now) (IsKeptDrive self.kept name.now) };
+        ensures { MatchOption result (HasNoDrive self.kept name.now) (IsKeptDrive self.kept name.now) }
+    {
+        let mut entries = self.entries;
+        let place = place_of(&entries, name)?;
+        entries.swap_remove(place).holding.into_drive()
+    }
 }
