@@ -137,7 +137,7 @@ impl MemoryShelf {
     pub fn has(&self, name: &Name) -> bool
         ensures { result ≡ is_some (drive_under self.now.drives name.now) }
     {
-        self.drives.iter().any(|named| named.is_under(name))
+        place_of(&self.drives, name).is_some()
     }
 
     /// How often a call failed.
