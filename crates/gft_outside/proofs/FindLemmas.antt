@@ -58,6 +58,16 @@ module _ {X : Type 0} (p : X → Bool) where
       let is = at_first xs at d there.0 there.1 there.2 in
       (there.0, is.0, is.1)
 
+  -- where none is found, none is left out
+  pub none_left : (xs : List X) → find p xs ≡ None → filter fails_at xs ≡ xs
+  none_left [] e = refl
+  none_left (x ∷ xs) e = step (p x) refl (none_left xs) e
+    where
+      step : (b : Bool) → p x ≡ b → (find p xs ≡ None → filter fails_at xs ≡ xs) → cond b (Some x) (find p xs) ≡ None
+          → (if not b then x ∷ filter fails_at xs else filter fails_at xs) ≡ x ∷ xs
+      step true h later is = cc
+      step false h later is = ap (λ (l : List X). x ∷ l) (later is)
+
   -- what is left has none that passes
   pub find_left : (xs : List X) → find p (filter fails_at xs) ≡ None
   find_left [] = refl

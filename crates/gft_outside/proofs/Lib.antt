@@ -2,6 +2,7 @@ mod ArrivalLemmas
 mod FindLemmas
 mod HonestLaneLemmas
 mod PieceLemmas
+mod LinkLemmas
 mod Places
 mod ShelfLemmas
 mod StateLemmas
