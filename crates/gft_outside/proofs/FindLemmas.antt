@@ -22,9 +22,10 @@ module _ {X : Type 0} (p : X → Bool) where
           absurd (omega (arith, le, here))
       step false e later =
           let here : position_or_len p (x ∷ xs) ≡ 1 + position_or_len p xs = ap (λ (c : Bool). cond (not c) (1 + position_or_len p xs) 0) e in
-          let rest = later (omega (arith, le, here)) in
-          (ap (λ (c : Bool). cond c (Some x) (find p xs)) e ∙ rest.0,
-          ap (λ (c : Bool). if not c then x ∷ filter fails_at xs else filter fails_at xs) e ∙ ap (λ (l : List X). x ∷ l) rest.1)
+          let rest = later (omega (arith, le, here)) in (
+            ap (λ (c : Bool). cond c (Some x) (find p xs)) e ∙ rest.0,
+            ap (λ (c : Bool). if not c then x ∷ filter fails_at xs else filter fails_at xs) e ∙ ap (λ (l : List X). x ∷ l) rest.1,
+          )
 
   some_none : (n m : ℕ) → cond (ltb n m) (Some n) None ≡ None → m ≤ n
   some_none n m e = elim (cases_lt n m) [
@@ -39,16 +40,18 @@ module _ {X : Type 0} (p : X → Bool) where
   at_first : (xs : List X) (at : ℕ) (d : X) → at < length xs → p (get_or xs at d) ≡ true → ((k : ℕ) → k < at → p (get_or xs k d) ≡ false)
       → (find p xs ≡ Some (get_or xs at d)) × (filter fails_at (remove xs at) ≡ filter fails_at xs)
   at_first [] at d lt is before = absurd (omega arith)
-  at_first (x ∷ xs) zero d lt is before =
-      (ap (λ (c : Bool). cond c (Some x) (find p xs)) is,
-      sym (ap (λ (c : Bool). if not c then x ∷ filter fails_at xs else filter fails_at xs) is))
+  at_first (x ∷ xs) zero d lt is before = (
+    ap (λ (c : Bool). cond c (Some x) (find p xs)) is,
+    sym (ap (λ (c : Bool). if not c then x ∷ filter fails_at xs else filter fails_at xs) is),
+  )
   at_first (x ∷ xs) (suc at) d lt is before =
       let here : p x ≡ false = before 0 (omega arith) in
-      let rest = at_first xs at d (omega arith) is (λ k le. before (suc k) (omega arith)) in
-      (ap (λ (c : Bool). cond c (Some x) (find p xs)) here ∙ rest.0,
-      ap (λ (c : Bool). if not c then x ∷ filter fails_at (remove xs at) else filter fails_at (remove xs at)) here
-      ∙ ap (λ (l : List X). x ∷ l) rest.1
-      ∙ sym (ap (λ (c : Bool). if not c then x ∷ filter fails_at xs else filter fails_at xs) here))
+      let rest = at_first xs at d (omega arith) is (λ k le. before (suc k) (omega arith)) in (
+        ap (λ (c : Bool). cond c (Some x) (find p xs)) here ∙ rest.0,
+        ap (λ (c : Bool). if not c then x ∷ filter fails_at (remove xs at) else filter fails_at (remove xs at)) here
+            ∙ ap (λ (l : List X). x ∷ l) rest.1
+            ∙ sym (ap (λ (c : Bool). if not c then x ∷ filter fails_at xs else filter fails_at xs) here),
+      )
 
   -- the first that passes stands there
   pub first_there : (xs : List X) (at : ℕ) (d : X) → position p xs ≡ Some at

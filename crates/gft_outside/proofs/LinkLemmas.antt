@@ -33,11 +33,12 @@ dial_to {X} at [] dial r is e = absurd (no is)
     no : Some dial ≡ None → ⊥
     no e = cc
 dial_to {X} at (first ∷ rest) dial r is e =
-    let same : dial ≡ first = same_Some dial first is in
-    (λ t.
-    let pq = both (pointwise nat_eq dial.at.host at.host) (nat_eq dial.at.port at.port) (sym e ∙ t) in
-    subst (λ (d : Dial X). d.at ≡ at) same (same_address dial.at at ((hosts dial.at.host at.host).0 pq.0) (eqb-true dial.at.port at.port pq.1)),
-    λ to.
-    let here : dial.at ≡ at = ap (λ (d : Dial X). d.at) same ∙ to in
-    e ∙ both_true (pointwise nat_eq dial.at.host at.host) (nat_eq dial.at.port at.port)
-    ((hosts dial.at.host at.host).1 (ap (λ (a : HostPort). a.host) here)) (eq-eqb dial.at.port at.port (ap (λ (a : HostPort). a.port) here)))
+    let same : dial ≡ first = same_Some dial first is in (
+      λ t.
+          let pq = both (pointwise nat_eq dial.at.host at.host) (nat_eq dial.at.port at.port) (sym e ∙ t) in
+          subst (λ (d : Dial X). d.at ≡ at) same (same_address dial.at at ((hosts dial.at.host at.host).0 pq.0) (eqb-true dial.at.port at.port pq.1)),
+      λ to.
+          let here : dial.at ≡ at = ap (λ (d : Dial X). d.at) same ∙ to in
+          e ∙ both_true (pointwise nat_eq dial.at.host at.host) (nat_eq dial.at.port at.port)
+          ((hosts dial.at.host at.host).1 (ap (λ (a : HostPort). a.host) here)) (eq-eqb dial.at.port at.port (ap (λ (a : HostPort). a.port) here)),
+    )

@@ -51,50 +51,62 @@ state_of drive = state_after drive.label drive.disk drive.faults
 pub finds_told : (old new : ShelfList) (name : List ℕ) (result : Result (Option Memory) ShelfError) → FindsIn name result old new
     → IfOk result (λ found. MatchOption found (FindsNone (shelf_state old) (shelf_state new) name) (λ drive. FindsDrive (state_of drive) (shelf_state old) (shelf_state new) name drive))
     × IfErr result (NotFound (shelf_state old) (shelf_state new) name)
-finds_told old new name (Ok None) h =
-    (subst (λ (s : ShelfList). FindsNone (shelf_state old) (shelf_state s) name) (sym h.2) (record {
-      had = sym h.1;
-      same = λ other any. ap (λ (l : List Memory). drive_under l other) (none_left (is_under name) old.drives (sym h.1));
-      faults = refl;
-    }), tt)
-finds_told old new name (Ok (Some drive)) h =
-    (subst (λ (s : ShelfList). FindsDrive (state_of drive) (shelf_state old) (shelf_state s) name drive) (sym h.2) (record {
-      had = sym h.1;
-      gone = gone old.drives name;
-      others = λ other apart. others old.drives name other apart;
-      label = labelled old.drives name drive (sym h.1);
-      tells = λ told. refl;
-      faults = refl;
-    }), tt)
-finds_told old new name (Err error.Failed) h =
-    (tt, subst (λ (s : ShelfList). NotFound (shelf_state old) (shelf_state s) name error.Failed) (sym h.1) (record {
-      same = λ other any. refl;
-      cause = omega arith;
-    }))
+finds_told old new name (Ok None) h = (
+  subst (λ (s : ShelfList). FindsNone (shelf_state old) (shelf_state s) name) (sym h.2) (record {
+    had = sym h.1;
+    same = λ other any. ap (λ (l : List Memory). drive_under l other) (none_left (is_under name) old.drives (sym h.1));
+    faults = refl;
+  }),
+  tt,
+)
+finds_told old new name (Ok (Some drive)) h = (
+  subst (λ (s : ShelfList). FindsDrive (state_of drive) (shelf_state old) (shelf_state s) name drive) (sym h.2) (record {
+    had = sym h.1;
+    gone = gone old.drives name;
+    others = λ other apart. others old.drives name other apart;
+    label = labelled old.drives name drive (sym h.1);
+    tells = λ told. refl;
+    faults = refl;
+  }),
+  tt,
+)
+finds_told old new name (Err error.Failed) h = (
+  tt,
+  subst (λ (s : ShelfList). NotFound (shelf_state old) (shelf_state s) name error.Failed) (sym h.1) (record {
+    same = λ other any. refl;
+    cause = omega arith;
+  }),
+)
 finds_told old new name (Err error.OutOfMemory) h = absurd h
 
 pub makes_told : (old new : ShelfList) (name : List ℕ) (result : Result Memory ShelfError) → MakesIn name result old new
     → IfOk result (λ drive. MakesDrive (state_of drive) (shelf_state old) (shelf_state new) name)
     × IfErr result (NotMade state_of (shelf_state old) (shelf_state new) name)
-makes_told old new name (Ok drive) h =
-    (subst (λ (s : ShelfList). MakesDrive (state_of drive) (shelf_state old) (shelf_state s) name) (sym h.2) (record {
-      gone = gone old.drives name;
-      others = λ other apart. others old.drives name other apart;
-      fresh = made_new old.making name drive h.1;
-      faults = refl;
-    }), tt)
-makes_told old new name (Err error.Failed) h =
-    (tt, subst (λ (s : ShelfList). NotMade state_of (shelf_state old) (shelf_state s) name error.Failed) (sym h.1) (record {
-      others = λ other apart. refl;
-      under = inl (λ other any. refl);
-      cause = omega arith;
-    }))
-makes_told old new name (Err error.OutOfMemory) h =
-    (tt, subst (λ (s : ShelfList). NotMade state_of (shelf_state old) (shelf_state s) name error.OutOfMemory) (sym h.1) (record {
-      others = λ other apart. refl;
-      under = inl (λ other any. refl);
-      cause = refl;
-    }))
+makes_told old new name (Ok drive) h = (
+  subst (λ (s : ShelfList). MakesDrive (state_of drive) (shelf_state old) (shelf_state s) name) (sym h.2) (record {
+    gone = gone old.drives name;
+    others = λ other apart. others old.drives name other apart;
+    fresh = made_new old.making name drive h.1;
+    faults = refl;
+  }),
+  tt,
+)
+makes_told old new name (Err error.Failed) h = (
+  tt,
+  subst (λ (s : ShelfList). NotMade state_of (shelf_state old) (shelf_state s) name error.Failed) (sym h.1) (record {
+    others = λ other apart. refl;
+    under = inl (λ other any. refl);
+    cause = omega arith;
+  }),
+)
+makes_told old new name (Err error.OutOfMemory) h = (
+  tt,
+  subst (λ (s : ShelfList). NotMade state_of (shelf_state old) (shelf_state s) name error.OutOfMemory) (sym h.1) (record {
+    others = λ other apart. refl;
+    under = inl (λ other any. refl);
+    cause = refl;
+  }),
+)
 
 pub removes_told : {T E : Type 0} (old new : ShelfList) (name : List ℕ) (result : Result T E) → RemovesIn name result old new
     → MatchResult result (λ _. RemovesName (shelf_state old) (shelf_state new) name) (λ _. NotRemoved (shelf_state old) (shelf_state new) name)

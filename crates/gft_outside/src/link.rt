@@ -47,11 +47,7 @@ pub trait Link: Sized + Send {
 
     /// Listens at so many addresses, and hands out a lane for each, on which no channel was opened yet. If
     /// it refuses, it hands out none.
-    fn listen(
-        &mut self,
-        alloc: Global,
-        stripes: u16,
-    ) -> Result<Vec<Listening<Self::In>>, LinkError>
+    fn listen(&mut self, alloc: Global, stripes: u16) -> Result<Vec<Listening<Self::In>>, LinkError>
         requires { 1 ≤ stripes }
         ensures out { IfOk result (λ lanes. HandsOut (state self.old) (state self.new) lanes.items) }
         ensures count { IfOk result (λ lanes. vec_len lanes ≡ stripes) }

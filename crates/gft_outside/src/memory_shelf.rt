@@ -74,7 +74,13 @@ impl DriveMaker {
         ensures made { IfOk result (IsMadeOn self.now name.now) }
         ensures refused { IfErr result (λ error. error ≡ ShelfError.OutOfMemory) }
     {
-        match MemoryDrive::new(alloc, name.as_bytes(), self.capacity, self.calls, &self.failing) {
+        match MemoryDrive::new(
+            alloc,
+            name.as_bytes(),
+            self.capacity,
+            self.calls,
+            &self.failing,
+        ) {
             Ok(drive) => Ok(drive),
             Err(_) => Err(ShelfError::OutOfMemory),
         }

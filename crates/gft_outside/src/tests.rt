@@ -256,7 +256,12 @@ fn a_link_leaves_out_what_was_used(rt: HostRuntime) -> Result<(), Fail> {
     let mut out = MemoryOutLane::new(alloc, 5, Vec::new(alloc))?;
     out.close();
     let lanes = vec![in alloc; used, waiting(alloc, 2)?]?;
-    let dials = vec![in alloc; Dial { at: address(3), out }]?;
+    let dials = vec![in alloc;
+        Dial {
+            at: address(3),
+            out
+        },
+    ]?;
     let mut link = MemoryLink::new(alloc, lanes, dials, Vec::new(alloc))?;
     assert_eq!(rt; link.listen(alloc, 1)?.remove(0).at, address(2));
     assert_eq!(rt; link.dial(&address(3)).err(), Some(Failed));
@@ -274,7 +279,11 @@ fn named(alloc: Global, name: &[u8], room: u64) -> Result<NamedDrive, Fail> {
 #[test]
 fn a_shelf_hands_out_its_drives(rt: HostRuntime) -> Result<(), Fail> {
     let alloc = rt.alloc();
-    let drives = vec![in alloc; named(alloc, b"b", 1)?, named(alloc, b"a", 2)?, named(alloc, b"a", 3)?]?;
+    let drives = vec![in alloc;
+        named(alloc, b"b", 1)?,
+        named(alloc, b"a", 2)?,
+        named(alloc, b"a", 3)?,
+    ]?;
     let (a, b) = (read_name(alloc, b"a")?, read_name(alloc, b"b")?);
     let mut shelf = MemoryShelf::new(drives, 9, 9, Vec::new(alloc), vec![in alloc; 2]?);
     let Some(mut drive) = shelf.find(alloc, &a)? else {
@@ -284,7 +293,10 @@ fn a_shelf_hands_out_its_drives(rt: HostRuntime) -> Result<(), Fail> {
     assert_eq!(rt; drive.write_at(Part::Bytes, 2, b"c"), Err(Failed));
     assert_eq!(rt; shelf.find(alloc, &b).err(), Some(ShelfError::Failed));
     assert!(rt; shelf.find(alloc, &a)?.is_none());
-    assert_eq!(rt; (shelf.has(&a), shelf.has(&b), shelf.faults()), (false, true, 1));
+    assert_eq!(rt;
+        (shelf.has(&a), shelf.has(&b), shelf.faults()),
+        (false, true, 1)
+    );
     assert_eq!(rt; shelf.remove(&b), Ok(()));
     assert!(rt; !shelf.has(&b));
     Ok(())

@@ -10,7 +10,8 @@ pub invariant_of-result : goal.invariant_of-result
 invariant_of-result c =
     let items = c.args.items.items in
     let kept = c.truncate.ensures.items ∙ ap (take c.count_in_turn-count.result) (sym c.deref.ensures.value) ∙ c.count_in_turn-count.ensures.front ∙ ap (front_in_turn no_channels) c.deref.ensures.value in
-    let all : c.new.result.all ≡ flat_map lane_inputs (front_in_turn no_channels items) = ap (λ (s : Script LaneInput). s.all) c.new.ensures ∙ ap (flat_map lane_inputs) kept in
-    (subst (λ (l : List LaneInput). AreInTurn (reverse l) no_channels) (sym all) (in_turn_front items no_channels),
-    λ (no_end : false ≡ true). cc,
-    λ unused. (ap (λ (s : Script LaneInput). s.place) c.new.ensures, refl, c.new-3.ensures))
+    let all : c.new.result.all ≡ flat_map lane_inputs (front_in_turn no_channels items) = ap (λ (s : Script LaneInput). s.all) c.new.ensures ∙ ap (flat_map lane_inputs) kept in (
+      subst (λ (l : List LaneInput). AreInTurn (reverse l) no_channels) (sym all) (in_turn_front items no_channels),
+      λ (no_end : false ≡ true). cc,
+      λ unused. (ap (λ (s : Script LaneInput). s.place) c.new.ensures, refl, c.new-3.ensures),
+    )
