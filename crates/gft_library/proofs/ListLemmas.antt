@@ -27,7 +27,7 @@ same_names (x ∷ a) (y ∷ b) same = cases (nat_eq x y) refl (same_names a b) s
     cases true here tail rest = let head = eqb-true x y here in let later = tail rest in cc
     cases false here tail rest = true_false (sym rest)
 
-name_itself : (a : List ℕ) → pointwise nat_eq a a ≡ true
+pub name_itself : (a : List ℕ) → pointwise nat_eq a a ≡ true
 name_itself [] = refl
 name_itself (x ∷ a) = ap (λ (b : Bool). b && pointwise nat_eq a a) (eq-eqb x x refl) ∙ name_itself a
 

@@ -60,7 +60,7 @@ asked drive_state shelf_state old new name = record {
 }
 
 -- nothing is kept under the name, though there is room for it
-record IsNowhere {D O S : Type 0} (call : Asked D O S) : Type 0 where
+pub record IsNowhere {D O S : Type 0} (call : Asked D O S) : Type 0 where
   pub none : kept_under call.old.kept call.name ≡ None
   pub room : length call.old.kept < MAX_NAMES
 
@@ -72,14 +72,14 @@ HasDrive call now drive =
     (call.shelf_state now) call.name drive)
 
 -- the name was nowhere, and the shelf, which is so then, made it
-record IsMade {D O S : Type 0} (call : Asked D O S) (now : S) (drive : D) : Type 0 where
+pub record IsMade {D O S : Type 0} (call : Asked D O S) (now : S) (drive : D) : Type 0 where
   pub nowhere : IsNowhere call
   pub before : S
   pub absent : FindsNone (call.shelf_state call.old.shelf) (call.shelf_state before) call.name
   pub made : MakesDrive (call.drive_state drive) (call.shelf_state before) (call.shelf_state now) call.name
 
 -- a Book on which nothing was begun, over a drive that was attached now
-record IsOpenedOn {D : Type 0} (state : D → DriveState) (drive : D) (book : Seen D) : Type 0 where
+pub record IsOpenedOn {D : Type 0} (state : D → DriveState) (drive : D) (book : Seen D) : Type 0 where
   pub attached : Attached (state drive) (keep_of state book.keep)
   pub untouched : book ≡ record {
     keep = book.keep;
@@ -122,7 +122,7 @@ IsOneTooMany call why =
     × (why ≡ error.TooManyNames) × (call.new ≡ call.old)
 
 -- a drive could not be attached, and is kept
-record IsNotOpened {D O S : Type 0} (call : Asked D O S) (drive : D) (why : LibraryError) : Type 0 where
+pub record IsNotOpened {D O S : Type 0} (call : Asked D O S) (drive : D) (why : LibraryError) : Type 0 where
   pub error : AttachError
   pub is : why ≡ of_attach error
   pub later : D
@@ -130,7 +130,7 @@ record IsNotOpened {D O S : Type 0} (call : Asked D O S) (drive : D) (why : Libr
   pub stays : kept_under call.new.kept call.name ≡ Some (Unread later)
 
 -- the shelf refused to look for the name
-record IsNotLooked {D O S : Type 0} (call : Asked D O S) (why : LibraryError) : Type 0 where
+pub record IsNotLooked {D O S : Type 0} (call : Asked D O S) (why : LibraryError) : Type 0 where
   pub nowhere : IsNowhere call
   pub error : ShelfError
   pub is : why ≡ of_shelf error
@@ -138,14 +138,14 @@ record IsNotLooked {D O S : Type 0} (call : Asked D O S) (why : LibraryError) : 
   pub kept : call.new.kept ≡ call.old.kept
 
 -- the shelf has no such name: the call is refused for that, with this
-record IsAbsent {D O S : Type 0} (call : Asked D O S) (absent why : LibraryError) : Type 0 where
+pub record IsAbsent {D O S : Type 0} (call : Asked D O S) (absent why : LibraryError) : Type 0 where
   pub nowhere : IsNowhere call
   pub is : why ≡ absent
   pub found : FindsNone (call.shelf_state call.old.shelf) (call.shelf_state call.new.shelf) call.name
   pub kept : call.new.kept ≡ call.old.kept
 
 -- the shelf has no such name, and refused to make it
-record IsNotMade {D O S : Type 0} (call : Asked D O S) (why : LibraryError) : Type 0 where
+pub record IsNotMade {D O S : Type 0} (call : Asked D O S) (why : LibraryError) : Type 0 where
   pub nowhere : IsNowhere call
   pub before : S
   pub absent : FindsNone (call.shelf_state call.old.shelf) (call.shelf_state before) call.name

@@ -30,7 +30,10 @@ impl<S: Shelf + Drop> Tally<S> for NoTally {
 
     ghost told = { λ _. None };
 
-    fn take(&mut self, _answer: Answer<S>) {}
+    fn take(&mut self, _answer: Answer<S>)
+        ensures { TakesAnswer (⟦<NoTally as Tally<S>>⟧.told self.old) (⟦<NoTally as Tally<S>>⟧.told self.new)
+            _answer }
+    {}
 }
 
 /// Keeps the answers that it takes, up to its room, and tells them; past its room it keeps and tells nothing

@@ -1,0 +1,3 @@
+mod ListLemmas
+mod NamesLemmas
+mod SourceLemmas
