@@ -1,7 +1,0 @@
-pub mod Answers
-pub mod Calls
-pub mod Finding
-pub mod Kept
-pub mod Steps
-pub mod Tallies
-pub mod Words
