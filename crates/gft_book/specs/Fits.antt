@@ -65,7 +65,8 @@ stored_events (Some cause.DriveFailed) lane offset bytes events =
 stored_events (Some other) lane offset bytes events = event.Lost ∷ events
 
 -- the cause before the call, and after it
-abbrev pub store_events : Option Cause → Option Cause → ℕ → ℕ → List ℕ → List CoreEvent → List CoreEvent
+abbrev pub store_events : Option Cause → Option Cause → ℕ → ℕ → List ℕ → List CoreEvent
+    → List CoreEvent
 store_events before after lane offset bytes events =
     if_running before (stored_events after lane offset bytes events) events
 

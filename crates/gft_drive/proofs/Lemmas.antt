@@ -4,7 +4,7 @@ pub use Rattle.gft_drive.proofs.Banks.{SameBelow, SameBut, ends_all, ends_last, 
 pub use Rattle.gft_drive.proofs.Looking.{Unchanged-then, synced_looked}
 pub use Rattle.gft_drive.proofs.Run.{Phase, Since, elapses_refl, elapses_trans, exact_goes_on, goes_on, holds_on, is_exact}
 pub use Rattle.gft_drive.proofs.Run.{leaves_as, leaves_by, reads_from, since_nothing, started, sync_goes_on}
-pub use Rattle.gft_drive.proofs.Sending.{one_lane_fit, one_lane_fits}
+pub use Rattle.gft_drive.proofs.Sending.{among_offsets, offsets_below, one_lane_fit, one_lane_fits}
 pub use Rattle.gft_drive.proofs.Slots.{IsLayout, others_bytes, slot_moved, slot_same, torn_differs, written_differs}
 pub use Rattle.gft_drive.proofs.Steps.{Goes-refl, Goes-then, Reads-same, Reads-then, Reads-weaker}
 pub use Rattle.gft_drive.proofs.Steps.{tells_some, told_before, told_some}

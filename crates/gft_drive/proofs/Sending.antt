@@ -6,7 +6,7 @@ use Rattle.gft_base.specs.declared.TheConstants.{LIMIT}
 use Rattle.gft_range.specs.declared.Range.{Range}
 use Rattle.gft_drive.specs.Origin.{AreFit, IsAmong, IsSending, offsets_from, one_lane}
 
-among_offsets : (offset x : ℕ) (bytes : List ℕ) → offset ≤ x → x < offset + length bytes → IsAmong x (offsets_from offset bytes)
+pub among_offsets : (offset x : ℕ) (bytes : List ℕ) → offset ≤ x → x < offset + length bytes → IsAmong x (offsets_from offset bytes)
 among_offsets offset x [] le lt = absurd (omega arith)
 among_offsets offset x (b ∷ bs) le lt =
     elim (cases_lt offset x) [
@@ -14,7 +14,7 @@ among_offsets offset x (b ∷ bs) le lt =
       | inr here ↦ inl (omega arith)
     ]
 
-offsets_below : (offset x : ℕ) (bytes : List ℕ) → IsAmong x (offsets_from offset bytes) → x < offset + length bytes
+pub offsets_below : (offset x : ℕ) (bytes : List ℕ) → IsAmong x (offsets_from offset bytes) → x < offset + length bytes
 offsets_below offset x [] none = absurd none
 offsets_below offset x (b ∷ bs) among =
     elim among [ inl here ↦ omega arith | inr later ↦ let below = offsets_below (offset + 1) x bs later in omega arith ]

@@ -43,7 +43,8 @@ pub record IsScan (xs : List ℕ) (at n : ℕ) (scan : Scan) : Type 0 where
       ↔ LastEndsAt complete_kind (λ i. slot_of first_layout xs (slot_at first_layout at i)) n len
   pub next : scan.next ≤ n
   pub few : length scan.set.ranges ≤ n
-  pub shut : (i : ℕ) → scan.next ≤ i → i < n → (slot_of first_layout xs (slot_at first_layout at i)).gate ≢ 1
+  pub shut : (i : ℕ) → scan.next ≤ i → i < n
+      → (slot_of first_layout xs (slot_at first_layout at i)).gate ≢ 1
   pub fit : (i : ℕ) → i < n → (slot_of first_layout xs (slot_at first_layout at i)).gate ≡ 1
       → IsFit (slot_of first_layout xs (slot_at first_layout at i))
       × IsPadded first_layout xs (slot_at first_layout at i)

@@ -48,7 +48,8 @@ open_keep drive set journal = record {
 pub record NamesSet (set : List Range) (drive : DriveState) : Type 0 where
   pub few : length set ≤ MAX_RANGES
   pub in_limit : (x : ℕ) → HasOffset set x → x < LIMIT
-  pub ranges : (read : Image) → drive.contents ≡ Some read → (x : ℕ) → Covers read.ranges x ↔ HasOffset set x
+  pub ranges : (read : Image) → drive.contents ≡ Some read
+      → (x : ℕ) → Covers read.ranges x ↔ HasOffset set x
 
 -- the union with the block is short enough for a file
 abbrev pub HasFitUnion : List Range → Range → Type 0

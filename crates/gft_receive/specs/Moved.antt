@@ -42,7 +42,8 @@ pub record HasFailedFor (bounds : Bounds) (inputs : List LaneInput) (rest : List
 
 -- how a mover ends that booked with its pass all but the rest of what the lane brought: it is done; or the
 -- transfer ended without it; or it failed for a cause
-abbrev pub MoverEnds : Bounds → List LaneInput → List Arrival → Type 0 → Type 0 → Numbers → Numbers → Type 0
+abbrev pub MoverEnds : Bounds → List LaneInput → List Arrival → Type 0 → Type 0 → Numbers → Numbers
+    → Type 0
 MoverEnds bounds inputs rest rose done had after =
     IsDoneWith bounds inputs rest done had after
     ⊎ (after ≡ as_stopped had)

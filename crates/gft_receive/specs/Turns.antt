@@ -103,7 +103,8 @@ FeedsHonest sent start m pass channel bytes =
 
 -- if the transfer's label has a source or its total is known, the lane tells what it has left, and all that
 -- it brings may be booked
-abbrev pub TellsHonest : (List ℕ → Option Sent) → Start → ℕ → ℕ → List LaneInput → LaneState → Type 0
+abbrev pub TellsHonest : (List ℕ → Option Sent) → Start → ℕ → ℕ → List LaneInput → LaneState
+    → Type 0
 TellsHonest sent start shift lane inputs state =
     IsSome (sent start.label) ⊎ IsSome start.total
     → (left : List LaneInput) × (state.left ≡ Some left)

@@ -20,8 +20,8 @@ pub record IsReadyStripe {D X : Type 0} (drive_state : D → DriveState) (out_st
   pub there : MustHave (drive_state stripe.drive).contents (InRange plan.region)
 
 -- the stripe of this number was sent, and keeps how that ended
-abbrev pub SendsStripe : {D X : Type 0} → (D → DriveState) → (X → OutLaneState) → SendPlan → List Range → ℕ
-    → Stripe D X → Stripe D X → Type 0
+abbrev pub SendsStripe : {D X : Type 0} → (D → DriveState) → (X → OutLaneState) → SendPlan
+    → List Range → ℕ → Stripe D X → Stripe D X → Type 0
 SendsStripe drive_state out_state plan done number old new =
     SendsLane out_state plan done number new.sent (drive_state old.drive) (drive_state new.drive)
     old.channels.items new.channels.items
