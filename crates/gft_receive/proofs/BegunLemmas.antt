@@ -6,7 +6,7 @@ use Rattle.gft_pass.specs.Words.{Lane, nothing}
 use Rattle.gft_pass.proofs.Lemmas.{AllPasses-length}
 use Rattle.gft_book.specs.declared.usage.How.{How}
 use Rattle.gft_book.specs.declared.transfer.Stage.{Stage}
-use Rattle.gft_book.specs.Words.{BeginsStore, BookState, IsRunning}
+use Rattle.gft_book.specs.Words.{BeginsStore, BookState, IsRunning, start_at, start_now}
 use Rattle.gft_receive.specs.Transfer.{AreFresh}
 use Rattle.gft_receive.proofs.ListLemmas.{at_map, same_some}
 
@@ -25,3 +25,7 @@ begun_fresh old new way lanes dealt b k pass at =
 
 pub begun_many : (old new : BookState) (way : How) (lanes : ℕ) (dealt : List Lane) → BeginsStore old new way lanes dealt → length dealt ≡ lanes + 1
 begun_many old new way lanes dealt b = AllPasses-length b.transfer.roster.table (lanes + 1) dealt b.passes
+
+-- what its lanes are asked for
+pub begun_how : (old new : BookState) (way : How) (lanes : ℕ) (dealt : List Lane) → BeginsStore old new way lanes dealt → (start_now new).how ≡ way
+begun_how old new way lanes dealt b = ap (λ (s : Stage). (start_at new s).how) b.stage ∙ b.how

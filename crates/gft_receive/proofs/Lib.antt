@@ -16,5 +16,6 @@ mod BehindLemmas
 mod KnownLemmas
 mod PartLemmas
 mod BegunLemmas
+mod RowLemmas
 -- what the proofs of other crates may cite
 pub mod Lemmas

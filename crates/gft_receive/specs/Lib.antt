@@ -4,6 +4,7 @@ pub mod Complete
 pub mod Honest
 pub mod Known
 pub mod Moved
+pub mod Rows
 pub mod Table
 pub mod Transfer
 pub mod Turns

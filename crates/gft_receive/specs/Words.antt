@@ -7,5 +7,6 @@ pub use Rattle.gft_receive.specs.Honest.{AreOfSource, AreOfTotal, FollowsOrder, 
 pub use Rattle.gft_receive.specs.Honest.{MayBring, TellsTotal}
 pub use Rattle.gft_receive.specs.Moved.{Bounds, MoverEnds, GaveAll, HasFailedFor, IsDoneWith, IsLanesCause}
 pub use Rattle.gft_receive.specs.Moved.{IsMoved}
+pub use Rattle.gft_receive.specs.Rows.{BringsBytes, channel_inputs}
 pub use Rattle.gft_receive.specs.Transfer.{AreFresh, AreMet, AreReady, EndsBadly, EndsWell, HasRun, MovesEach}
 pub use Rattle.gft_receive.specs.Transfer.{Receives, ShowsGap, bounds_at}

@@ -4,12 +4,13 @@ ghost use Rattle.gft_book.specs.declared.transfer.Stage.TheVariants.{Rest};
 ghost use Rattle.gft_book.specs.Words.{NamesSome};
 ghost use Rattle.gft_outside.specs.Words.{EventFits, Gives, LaneEnds, gate_state, given_by, lane_state};
 ghost use Rattle.gft_outside.specs.Words.{no_channels};
+ghost use Rattle.gft_receive.specs.Rows.{AreHalves, BringsBytes};
 
 use super::*;
 use gft_base::Failed;
 use gft_book::{Book, How};
 use gft_core::Octets;
-use gft_drive::{DriveCall, FailAt, MemoryDrive, Unknown};
+use gft_drive::{DriveCall, FailAt, MemoryDrive, Origin, Unknown};
 use gft_eblock::{BadBlock, Header, encode};
 use gft_keep::Keep;
 use gft_outside::{GateLane, Lane, LaneEvent, LaneItem, MemoryLane, NoClock, NoControl, NoSink};
@@ -567,5 +568,87 @@ fn sixteen_lanes_bring_a_mebibyte(rt: HostRuntime) -> Result<(), Fail> {
     assert_eq!(rt; end, Ok((1_048_576, true)));
     let drive = book.into_keep().into_drive();
     assert!(rt; is_generated(drive.bytes()));
+    Ok(())
+}
+
+/// Lane 0's channel: a block of `world` at 5, an EOF with the total 2, and an EOD.
+const SECOND_HALF: &[u8] = b"\0\0\0\0\0\0\0\0\x05\0\0\0\0\0\0\0\x05world\
+\x40\0\0\0\0\0\0\0\0\0\0\0\0\0\0\0\x02\x08\0\0\0\0\0\0\0\0\0\0\0\0\0\0\0\0";
+
+/// Lane 1's channel: a block of `hello` at 0, and an EOD.
+const FIRST_HALF: &[u8] = b"\0\0\0\0\0\0\0\0\x05\0\0\0\0\0\0\0\0hello\
+\x08\0\0\0\0\0\0\0\0\0\0\0\0\0\0\0\0";
+
+/// A source of the ten bytes `helloworld` for each label: lane 0 sends the second half, lane 1 the first.
+struct HelloWorld;
+
+impl Origin for HelloWorld {
+    ghost use Rattle.std.specs.Prelude.{Some};
+    ghost use Rattle.gft_receive.specs.Rows.{halves_fit, hello_world, two_halves};
+
+    ghost source = { λ _. Some hello_world };
+
+    ghost orders = { λ _ _. two_halves };
+
+    ghost fit = { halves_fit };
+}
+
+/// A lane that opens a channel on which these bytes come.
+fn one_channel(alloc: Global, bytes: &[u8]) -> Result<MemoryLane, Fail>
+    ensures { IfOk result (λ lane. BringsBytes bytes.now (lane_state lane)) }
+{
+    let bytes = Octets::from_bytes(alloc, bytes)?;
+    let mut items = Vec::new(alloc);
+    items.push(LaneItem::Opened(0))?;
+    items.push(LaneItem::Bytes { channel: 0, bytes })?;
+    Ok(MemoryLane::new(items, Vec::new(alloc)))
+}
+
+fn halves(alloc: Global) -> Result<Vec<MemoryLane>, Fail>
+    ensures { IfOk result (λ lanes. AreHalves lane_state lanes.items) }
+{
+    let second = one_channel(alloc, SECOND_HALF)?;
+    let first = one_channel(alloc, FIRST_HALF)?;
+    let mut lanes = Vec::new(alloc);
+    lanes.push(second)?;
+    lanes.push(first)?;
+    Ok(lanes)
+}
+
+#[test]
+fn two_lanes_bring_a_named_file(rt: HostRuntime) -> Result<(), Fail> {
+    let alloc = rt.alloc();
+    let lanes = halves(alloc)?;
+    let drive = MemoryDrive::new(alloc, b"name", 100, u32::MAX, &[])?;
+    let keep = match Keep::attach(alloc, drive) {
+        Ok(keep) => keep,
+        Err((error, _drive)) => return Err(Fail::from(error)),
+    };
+    let mut book = Book::<MemoryDrive, HelloWorld>::new(alloc, keep);
+    let passes = book.begin_store(How::Fresh, 2)?;
+    let limits = Limits {
+        marker_bytes: 1,
+        idle: 3,
+        shift: 0,
+    };
+    let received = receive(
+        &rt,
+        alloc,
+        lanes,
+        book,
+        passes,
+        &mut NoControl,
+        &mut Lines::new(alloc),
+        &mut NoSink,
+        &mut NoClock,
+        &limits,
+    );
+    let end = received
+        .outcome
+        .end
+        .map(|file| (file.len(), file.is_whole()));
+    assert_eq!(rt; end, Ok((10, true)));
+    let drive = received.book.into_keep().into_drive();
+    assert_eq!(rt; drive.bytes(), b"helloworld".as_slice());
     Ok(())
 }
