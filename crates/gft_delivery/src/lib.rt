@@ -7,3 +7,6 @@ mod laws;
 
 pub use delivering::deliver;
 pub use laws::sent_streams_are_honest;
+
+#[cfg(test)]
+mod tests;
