@@ -46,6 +46,7 @@ impl<D: Drive + Drop, O: Origin> Book<D, O> {
             pass.old pass.new offset bytes.now) }
         ensures stopped { OnErr result (StopsBlock (self.new.keep ≡ self.old.keep) (book_of D.state self.old)
             (book_of D.state self.new) pass.old pass.new offset bytes.now) }
+        ensures unmarked { OnErr result (self.new.unmarked ≡ self.old.unmarked) }
         ensures calls_on { CallsOn D.state self.old self.new }
         ensures events { (events : List CoreEvent) → Fits (book_of D.state self.old) events
             → StoresEvents (book_of D.state self.old) (book_of D.state self.new) pass.old.lane offset
@@ -80,6 +81,7 @@ impl<D: Drive + Drop, O: Origin> Book<D, O> {
         ensures stopped { OnErr result (Moving (StopsEof total pass.old pass.new) self.old.stage
             self.new.stage) }
         ensures keep { self.new.keep ≡ self.old.keep }
+        ensures unmarked { self.new.unmarked ≡ self.old.unmarked }
         ensures calls_on { CallsOn D.state self.old self.new }
         ensures events { (events : List CoreEvent) → Fits (book_of D.state self.old) events
             → Fits (book_of D.state self.new)
@@ -102,6 +104,7 @@ impl<D: Drive + Drop, O: Origin> Book<D, O> {
         ensures taken { OnOk result (Moving (TakesEod pass.old pass.new) self.old.stage self.new.stage) }
         ensures stopped { OnErr result (Moving (StopsEod pass.old pass.new) self.old.stage self.new.stage) }
         ensures keep { self.new.keep ≡ self.old.keep }
+        ensures unmarked { self.new.unmarked ≡ self.old.unmarked }
         ensures calls_on { CallsOn D.state self.old self.new }
         ensures events { (events : List CoreEvent) → Fits (book_of D.state self.old) events
             → Fits (book_of D.state self.new)
@@ -121,6 +124,7 @@ impl<D: Drive + Drop, O: Origin> Book<D, O> {
         requires outside { IsOutside cause }
         ensures failed { Moving (KeepsFirst cause pass.old pass.new) self.old.stage self.new.stage }
         ensures keep { self.new.keep ≡ self.old.keep }
+        ensures unmarked { self.new.unmarked ≡ self.old.unmarked }
         ensures calls_on { CallsOn D.state self.old self.new }
         ensures events { (events : List CoreEvent) → Fits (book_of D.state self.old) events
             → Fits (book_of D.state self.new)
