@@ -5,3 +5,4 @@ mod LaneLemmas
 mod OrderLemmas
 mod StreamLemmas
 mod SumLemmas
+mod RowLemmas

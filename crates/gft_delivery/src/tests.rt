@@ -4,11 +4,13 @@ ghost use Rattle.gft_book.specs.Words.{NamesSome};
 ghost use Rattle.gft_drive.specs.Memory.{image_of};
 ghost use Rattle.gft_outside.specs.Words.{lane_state, no_channels};
 ghost use Rattle.gft_send.specs.Words.{IsSendPlan};
-ghost use Rattle.gft_delivery.specs.Rows.{HasFile};
+ghost use Rattle.gft_receive.specs.Words.{BringsBytes};
+ghost use Rattle.gft_delivery.specs.Rows.{AreTen, HasFile};
 
+use super::*;
 use gft_book::{Book, How};
 use gft_core::Octets;
-use gft_drive::{Drive, MemoryDrive, Part, Unknown};
+use gft_drive::{Drive, MemoryDrive, Origin, Part, Unknown};
 use gft_eblock::{Header, encode};
 use gft_keep::Keep;
 use gft_layout::{Layout, Shape};
@@ -368,4 +370,82 @@ fn a_larger_file_arrives(rt: HostRuntime) -> Result<(), Fail> {
         shape,
         &sizes,
     )
+}
+
+/// The streams of `abcdefghij` in blocks of 4 over three stripes: a block, on the first an EOF of three EODs,
+/// and an EOD.
+const TEN: [&[u8]; 3] = [
+    b"\0\0\0\0\0\0\0\0\x04\0\0\0\0\0\0\0\0abcd\
+\x40\0\0\0\0\0\0\0\0\0\0\0\0\0\0\0\x03\x0c\0\0\0\0\0\0\0\0\0\0\0\0\0\0\0\0",
+    b"\0\0\0\0\0\0\0\0\x04\0\0\0\0\0\0\0\x04efgh\
+\x0c\0\0\0\0\0\0\0\0\0\0\0\0\0\0\0\0",
+    b"\0\0\0\0\0\0\0\0\x02\0\0\0\0\0\0\0\x08ij\
+\x0c\0\0\0\0\0\0\0\0\0\0\0\0\0\0\0\0",
+];
+
+/// A source of the ten bytes `abcdefghij` for each label, of which those streams are sent.
+struct Ten;
+
+impl Origin for Ten {
+    ghost use Rattle.std.specs.Prelude.{Some};
+    ghost use Rattle.gft_delivery.specs.Rows.{ten, ten_fit, ten_orders};
+
+    ghost source = { λ _. Some ten };
+
+    ghost orders = { λ _ _. ten_orders };
+
+    ghost fit = { ten_fit };
+}
+
+/// A lane that opens a channel on which these bytes come.
+fn one_channel(alloc: Global, bytes: &[u8]) -> Result<MemoryLane, Fail>
+    ensures { IfOk result (λ lane. BringsBytes bytes.now (lane_state lane)) }
+{
+    let bytes = Octets::from_bytes(alloc, bytes)?;
+    let mut items = Vec::new(alloc);
+    items.push(LaneItem::Opened(0))?;
+    items.push(LaneItem::Bytes { channel: 0, bytes })?;
+    Ok(MemoryLane::new(items, Vec::new(alloc)))
+}
+
+fn ten_lanes(alloc: Global) -> Result<Vec<MemoryLane>, Fail>
+    ensures { IfOk result (λ lanes. AreTen lane_state lanes.items) }
+{
+    let first = one_channel(alloc, TEN[0])?;
+    let second = one_channel(alloc, TEN[1])?;
+    let third = one_channel(alloc, TEN[2])?;
+    Ok(vec![in alloc; first, second, third]?)
+}
+
+#[test]
+fn ten_bytes_of_a_named_file_are_delivered(rt: HostRuntime) -> Result<(), Fail> {
+    let alloc = rt.alloc();
+    let lanes = ten_lanes(alloc)?;
+    let drive = MemoryDrive::new(alloc, b"name", 10, u32::MAX, &[])?;
+    let keep = match Keep::attach(alloc, drive) {
+        Ok(keep) => keep,
+        Err((error, _drive)) => return Err(Fail::from(error)),
+    };
+    let mut book = Book::<MemoryDrive, Ten>::new(alloc, keep);
+    let passes = book.begin_store(How::Fresh, 3)?;
+    let delivered = deliver(
+        &rt,
+        alloc,
+        lanes,
+        book,
+        passes,
+        &mut NoControl,
+        &mut Lines::new(alloc),
+        &mut NoSink,
+        &mut NoClock,
+        &LIMITS,
+    );
+    let end = delivered
+        .outcome
+        .end
+        .map(|file| (file.len(), file.is_whole()));
+    assert_eq!(rt; end, Ok((10, true)));
+    let drive = delivered.book.into_keep().into_drive();
+    assert_eq!(rt; drive.bytes(), b"abcdefghij".as_slice());
+    Ok(())
 }

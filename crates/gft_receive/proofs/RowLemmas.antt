@@ -33,7 +33,7 @@ unfolding arrivals blocks_from
 gained_first bytes = refl
 
 -- a lane whose one channel has these bytes brings what they tell
-channel_arrivals : (bytes : List ℕ) → lane_arrivals 0 (reverse (channel_inputs bytes)) ≡ arrivals 0 bytes
+pub channel_arrivals : (bytes : List ℕ) → lane_arrivals 0 (reverse (channel_inputs bytes)) ≡ arrivals 0 bytes
 channel_arrivals bytes =
     let came : List LaneInput = map (λ value. Came 0 value) bytes in
     ap (lane_arrivals 0) (sym (append-nil (reverse (channel_inputs bytes))) ∙ reverse-push (Opened 0) came [])
