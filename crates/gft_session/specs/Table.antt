@@ -1,6 +1,7 @@
 -- The session table: from a world and one line to the replies that the line brings and the world after it.
 use Rattle.std.specs.Prelude.{◌≡◌, ◌⊎◌, ◌||◌, Bool, true, false, MatchBool, if◌then◌else◌}
 use Rattle.std.specs.Prelude.{ℕ, List, [], ◌∷◌, length}
+use Rattle.gft_text.specs.declared.host_port.HostPort.{HostPort}
 use Rattle.gft_reply.specs.declared.reply.Reply.{Reply}
 use Rattle.gft_command.specs.Words.{IsCommand, RefusesLine}
 use Rattle.gft_command.specs.declared.command.Command.{Command}
@@ -14,7 +15,7 @@ use Rattle.gft_session.specs.Saying.{pass_reply, protection_reply, structure_rep
 use Rattle.gft_session.specs.Settings.{Around, State, Targets, World, is_in, with_options, without_list}
 
 -- the settings with another side of the data connections
-abbrev pub with_targets : {L : Type 0} → State L → List _ → State L
+abbrev pub with_targets : {L : Type 0} → State L → List HostPort → State L
 with_targets state places = record state { side = Targets places }
 
 -- one row for each command

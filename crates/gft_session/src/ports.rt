@@ -1,6 +1,6 @@
 //! The session's side of the data connections: the lanes that listen, and the targets.
 
-ghost use Rattle.std.specs.Prelude.{◌≡◌, ◌≤◌, [], ◌∷◌, ◌++◌, length, vec_len, vec_capacity, MatchResult};
+ghost use Rattle.std.specs.Prelude.{◌≡◌, ◌≤◌, ◌+◌, [], ◌∷◌, length, vec_len, vec_capacity, MatchResult};
 ghost use Rattle.gft_opts.specs.declared.TheConstants.{MAX_TARGETS};
 ghost use Rattle.gft_session.specs.Listeners.{HasHandedOut, KeepsCount, ListensNot, ListensOn, Returns};
 ghost use Rattle.gft_session.specs.Listeners.{lanes_of, places_of};
@@ -162,7 +162,8 @@ fn part<L: Drop>(listening: Vec<Listening<L>>, lanes: &mut Vec<L>, places: &mut 
     ensures lanes { lanes.new.items ≡ lanes_of listening.items }
     ensures places { places.new.items ≡ places_of listening.items }
 {
-    'each: for Listening { at, lane } in listening {
+    'each: for one in listening {
+        let Listening { at, lane } = one;
         lanes.push_reserved(lane);
         places.push_reserved(at);
     }

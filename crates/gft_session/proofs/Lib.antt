@@ -1,0 +1,6 @@
+mod PutLemmas
+mod HearingLemmas
+mod PortLemmas
+mod ReplyLemmas
+mod RefusalLemmas
+mod SessionLemmas
