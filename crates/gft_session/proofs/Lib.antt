@@ -1,4 +1,5 @@
 mod PutLemmas
+mod QuitLemmas
 mod HearingLemmas
 mod PortLemmas
 mod ReplyLemmas

@@ -1,6 +1,6 @@
 -- Lanes that are parted from their places, and given back.
-use Rattle.std.proofs.Common.{◌≡◌, ◌≤◌, ℕ, ◌+◌, ◌<◌, ◌++◌, List, [], ◌∷◌, length, refl, sym, ap, ◌∙◌, arith, length-append, get_or, map, length-map}
-use Rattle.std.proofs.lemmas.List.{nil_from_length}
+use Rattle.std.proofs.Common.{◌≡◌, ◌≤◌, ℕ, ◌+◌, ◌<◌, ◌++◌, List, [], ◌∷◌, length, refl, sym, ap, ◌∙◌, arith, length-append, get_or, map}
+use Rattle.std.proofs.lemmas.List.{length-map, nil_from_length}
 use Rattle.gft_text.specs.declared.host_port.HostPort.{HostPort}
 use Rattle.gft_outside.specs.Words.{LaneState, LinkState, TakesBack}
 use Rattle.gft_outside.specs.declared.link.Listening.{Listening}
@@ -14,7 +14,7 @@ returns_more lane a b c (first ∷ others) next returns takes = (returns.0, retu
 
 -- one stripe has one place
 pub one_place : {L X : Type 0} (lane : L → LaneState) (old new : World L X) (places : List HostPort) → ListensOn lane 1 old places new → length places ≡ 1
-one_place lane old new places listens = ap length listens.shown ∙ length-map _ listens.listening ∙ listens.count
+one_place lane old new places listens = ap length listens.shown ∙ length-map listens.listening _ ∙ listens.count
 
 pub single : {A : Type 0} (xs : List A) (x : A) → length xs ≡ 1 → x ≡ get_or xs 0 x → xs ≡ x ∷ []
 single [] x one is = absurd (omega (arith, one))

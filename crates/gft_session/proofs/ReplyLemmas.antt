@@ -96,5 +96,5 @@ pub address_between : (at : HostPort) (text front behind : List ℕ) → IsHostP
 address_between at text front behind is front_test behind_test front_short behind_short =
     let P : ℕ → Type 0 = λ b. eqb b line_feed ≡ false in
     line_from (front ++ host_port_text at ++ behind)
-      (All-append P front (host_port_text at ++ behind) (literal_lacks line_feed front front_test) (All-append P (host_port_text at) behind (address-lacks at text is) (literal_lacks line_feed behind behind_test)))
-      (omega (arith, length-append front (host_port_text at ++ behind), length-append (host_port_text at) behind, address-short at text is, front_short, behind_short))
+      (All-append P (front ++ host_port_text at) behind (All-append P front (host_port_text at) (literal_lacks line_feed front front_test) (address-lacks at text is)) (literal_lacks line_feed behind behind_test))
+      (omega (arith, length-append (front ++ host_port_text at) behind, length-append front (host_port_text at), address-short at text is, front_short, behind_short))

@@ -1,6 +1,6 @@
 //! One line, from its bytes to those of its reply.
 
-ghost use Rattle.std.specs.Prelude.{◌≡◌, ◌≤◌, ◌↔◌, [], ◌∷◌, ◌++◌, OnOk, IsTrue};
+ghost use Rattle.std.specs.Prelude.{◌≡◌, ◌≤◌, ◌↔◌, [], ◌∷◌, IfOk, OnOk, IsTrue};
 ghost use Rattle.gft_command.specs.declared.command.Command.{Command};
 ghost use Rattle.gft_opts.specs.declared.TheConstants.{MAX_TARGETS};
 ghost use Rattle.gft_reply.specs.Words.{reply_text};
@@ -39,17 +39,34 @@ pub(crate) fn answer<W: Sink, K: Link>(
     ensures ours { KeepsCount (world settings.old (K.state link.old)) (world settings.new (K.state link.new)) }
     ensures stopped { HasStopped (W.faults out.old) (W.faults out.new) result }
 {
-    let command = match parse(alloc, line) {
-        Ok(command) => command,
-        Err(why) => {
-            say(alloc, &ReplyKind::Unread(why), out)?;
-            return Ok(true);
+    match parse(alloc, line) {
+        Ok(command) => {
+            let goes_on = !is_quit(&command);
+            let reply = step(alloc, stripes, command, settings, link);
+            say_and_tell(alloc, &reply, out, goes_on)
         }
-    };
-    let goes_on = !is_quit(&command);
-    let reply = step(alloc, stripes, command, settings, link);
-    say(alloc, &reply, out)?;
-    Ok(goes_on)
+        Err(why) => say_and_tell(alloc, &ReplyKind::Unread(why), out, true),
+    }
+}
+
+/// Puts a reply whole, and tells whether the session goes on behind it.
+fn say_and_tell<W: Sink>(
+    alloc: Global,
+    kind: &ReplyKind,
+    out: &mut W,
+    goes_on: bool,
+) -> Result<bool, Stopped>
+    requires open { W.is_open out.old }
+    requires text { HasText kind.now }
+    ensures puts { Puts result (W.written out.old) (W.written out.new) (reply_text (reply_of kind.now)) }
+    ensures told { IfOk result (λ told. told ≡ goes_on) }
+    ensures open { OnOk result (W.is_open out.new) }
+    ensures stopped { HasStopped (W.faults out.old) (W.faults out.new) result }
+{
+    match say(alloc, kind, out) {
+        Ok(()) => Ok(goes_on),
+        Err(stopped) => Err(stopped),
+    }
 }
 
 /// Puts a reply whole, or stops.
