@@ -1,9 +1,9 @@
 -- How a line is heard, byte by byte.
-use Rattle.std.proofs.Common.{◌≡◌, ℕ, ◌+◌, ◌<◌, ◌≤◌, Bool, true, false, MatchBool, List, [], ◌∷◌, ◌++◌, length, take, get_or, refl, subst, sym, ap, ◌∙◌, arith, append_assoc, append-nil, length-append, length-take}
+use Rattle.std.proofs.Common.{◌≡◌, ℕ, ◌≤◌, Bool, true, false, MatchBool, List, [], ◌∷◌, ◌++◌, length, take, get_or, refl, subst, sym, ap, ◌∙◌, arith, append_assoc, append-nil, length-append, length-take}
 use Rattle.std.proofs.lemmas.List.{take_all}
 use Rattle.std.specs.Prelude.{map, reverse}
 use Rattle.gft_base.specs.Words.{line_feed}
-use Rattle.gft_text.specs.Words.{Line, Overlong, Told}
+use Rattle.gft_text.specs.Words.{Overlong}
 use Rattle.gft_text.specs.Lines.{CarriesLine, Held, Overruns, TakesAll, TakesLine, lines_to_come, lines_told}
 use Rattle.gft_text.specs.declared.lines.Fed.{Fed}
 use Rattle.gft_outside.specs.Words.{ControlInput, ControlState, Hears, Pause, Said, said}

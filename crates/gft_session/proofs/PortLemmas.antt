@@ -1,11 +1,10 @@
 -- Lanes that are parted from their places, and given back.
-use Rattle.std.proofs.Common.{◌≡◌, ◌≤◌, ℕ, ◌+◌, ◌<◌, ◌++◌, List, [], ◌∷◌, length, refl, sym, ap, ◌∙◌, arith, length-append, get_or, map}
+use Rattle.std.proofs.Common.{◌≡◌, ◌++◌, List, [], ◌∷◌, length, refl, sym, ap, ◌∙◌, arith, get_or}
 use Rattle.std.proofs.lemmas.List.{length-map, nil_from_length}
 use Rattle.gft_text.specs.declared.host_port.HostPort.{HostPort}
 use Rattle.gft_outside.specs.Words.{LaneState, LinkState, TakesBack}
-use Rattle.gft_outside.specs.declared.link.Listening.{Listening}
-use Rattle.gft_session.specs.Listeners.{ListensOn, Returns, lanes_of, places_of}
-use Rattle.gft_session.specs.Settings.{State, World}
+use Rattle.gft_session.specs.Listeners.{ListensOn, Returns}
+use Rattle.gft_session.specs.Settings.{World}
 
 -- a lane more is given back
 pub returns_more : {L X : Type 0} (lane : L → LaneState) (a b c : LinkState L X) (done : List L) (next : L) → Returns lane a b done → TakesBack b c next (lane next).faults → Returns lane a c (done ++ next ∷ [])

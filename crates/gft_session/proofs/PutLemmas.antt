@@ -1,5 +1,5 @@
 -- How what is put goes on.
-use Rattle.std.proofs.Common.{◌≡◌, ℕ, List, [], ◌++◌, ◌∷◌, Option, Some, None, Result, IsOk, refl, sym, ap, ◌∙◌, append_assoc, append-nil}
+use Rattle.std.proofs.Common.{ℕ, List, [], ◌++◌, ◌∷◌, Option, Some, None, Result, IsOk, refl, sym, ap, ◌∙◌, append_assoc, append-nil}
 use Rattle.std.specs.Io.KnownBytes.{Appends}
 use Rattle.gft_drive.specs.Words.{IsPartOf}
 use Rattle.gft_reply.specs.declared.reply.Reply.{Reply}

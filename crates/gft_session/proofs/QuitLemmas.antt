@@ -10,7 +10,7 @@ use Rattle.std.specs.Result.{result_unwrap_or}
 
 -- a session goes on exactly behind a line that was no QUIT
 pub quit_read : (quits : Bool) (line : List ℕ) (command : Command) → (quits ≡ true ↔ (command ≡ commands.Quit)) → IsCommand line command →
-    (IsQuit line → Ok {E = CommandError} command ≡ Ok commands.Quit) → MatchBool (not quits) (¬ IsQuit line) (IsQuit line)
+    (IsQuit line → (let read : Result Command CommandError = Ok command in read ≡ Ok commands.Quit)) → MatchBool (not quits) (¬ IsQuit line) (IsQuit line)
 quit_read true line command is reads one = subst (λ (one : Command). IsCommand line one) (is.0 refl) reads
 quit_read false line command is reads one = λ quit.
     let same : command ≡ commands.Quit = ap (λ (r : Result Command CommandError). result_unwrap_or r command) (one quit) in

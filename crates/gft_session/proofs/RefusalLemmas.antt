@@ -1,5 +1,5 @@
 -- Each reply of code 425 has its fault of the link.
-use Rattle.std.proofs.Common.{◌≡◌, ◌≤◌, ℕ, ◌+◌, ◌-◌, ◌^◌, ◌==◌, ◌||◌, min, Bool, true, false, MatchBool, if◌then◌else◌, List, [], ◌∷◌, length, refl, sym, ap, ◌∙◌, inl, inr, ◌⊎◌, arith}
+use Rattle.std.proofs.Common.{◌≡◌, ◌≤◌, ℕ, ◌+◌, ◌==◌, ◌||◌, Bool, true, false, MatchBool, if◌then◌else◌, List, [], ◌∷◌, length, refl, inl, inr, arith}
 use Rattle.gft_reply.specs.declared.reply.Reply.{Reply}
 use Rattle.gft_text.specs.declared.host_port.HostPort.{HostPort}
 use Rattle.gft_command.specs.declared.command.Command.{Command}
@@ -16,9 +16,9 @@ use Rattle.gft_session.specs.declared.settings.Login.TheVariants as logins
 use Rattle.gft_session.specs.Conversation.{Leads, RoseBy, Turn, refusals, refusals_in}
 use Rattle.gft_session.specs.Listeners.{Returns}
 use Rattle.gft_session.specs.Replies.{reply_of, unread_reply}
-use Rattle.gft_session.specs.Saying.{AnswersListen, IsPassive, IsRefused, IsStriped, Listens, Says, SaysAndReturns, folder_reply, is_root, mode_reply, pass_reply, protection_reply, refused_reply, structure_reply, type_reply}
+use Rattle.gft_session.specs.Saying.{AnswersListen, IsPassive, IsStriped, Says, SaysAndReturns, folder_reply, is_root, mode_reply, pass_reply, protection_reply, refused_reply, structure_reply, type_reply}
 use Rattle.gft_session.specs.Settings.{Around, State, World, is_in}
-use Rattle.gft_session.specs.Table.{AnswersCommand, AnswersLine, Reads, Refuses, Row, is_free}
+use Rattle.gft_session.specs.Table.{AnswersLine, Row, is_free}
 
 -- ---- which replies are of code 425
 
@@ -148,7 +148,7 @@ line_rose : {L X : Type 0} (around : Around L) (line : List ℕ) (old : World L 
 unfolding is_loud
 line_rose around line old replies new (inl reads) =
     by_test (is_free reads.command || is_in old.state.login) _ _ _
-      (λ row. row_rose around reads.command old replies new row) (λ first. says_rose _ _ _ _ _ (quiet kinds.LogInFirst refl) first) reads.answers
+    (λ row. row_rose around reads.command old replies new row) (λ first. says_rose _ _ _ _ _ (quiet kinds.LogInFirst refl) first) reads.answers
 line_rose around line old replies new (inr refuses) = says_rose _ _ _ _ _ (quiet_unread refuses.why) refuses.says
 
 -- the replies of code 425 are at most as many as the link's count rose by

@@ -1,13 +1,13 @@
 -- The texts of replies have no LF, and room in a line.
-use Rattle.std.proofs.Common.{◌≡◌, ℕ, ◌+◌, ◌*◌, ◌/◌, ◌%◌, ◌<◌, ◌≤◌, ◌^◌, Bool, true, false, not, ◌&&◌, eqb, ltb, IsTrue, List, [], ◌∷◌, ◌++◌, length, length-append, map, refl, sym, ap, ◌∙◌, lit<, arith, subst}
-use Rattle.std.specs.Prelude.{codes, decimal}
+use Rattle.std.proofs.Common.{◌≡◌, ℕ, ◌*◌, ◌/◌, ◌%◌, ◌<◌, ◌≤◌, ◌^◌, Bool, true, false, not, ◌&&◌, eqb, List, [], ◌∷◌, ◌++◌, length, length-append, map, refl, ◌∙◌, lit<, arith}
+use Rattle.std.specs.Prelude.{decimal}
 use Rattle.std.specs.List.{AllByRecursion, AllZip, join_with_byte, list_all}
 use Rattle.std.proofs.lemmas.Bool.{lt-ltb, ltb-true}
 use Rattle.std.proofs.lemmas.Fmt.{length-decimal-le}
 use Rattle.std.proofs.lemmas.List.Folds.{list_all-append}
 use Rattle.std.proofs.lemmas.List.Sums.{list_all-from_AllPass}
-use Rattle.std.proofs.lemmas.List.Elements.{All-append, All-cons, All-nil}
-use Rattle.gft_base.specs.Words.{Lacks, comma, line_feed, parts_at}
+use Rattle.std.proofs.lemmas.List.Elements.{All-append, All-nil}
+use Rattle.gft_base.specs.Words.{Lacks, comma, line_feed}
 use Rattle.gft_text.specs.HostPort.{IsByte, IsHostPort, host_port_text, numbers_of}
 use Rattle.gft_text.specs.declared.host_port.HostPort.{HostPort}
 use Rattle.gft_text.proofs.Lemmas.{decimal_lacks, lacks_joined, literal_lacks}
@@ -60,7 +60,7 @@ decimal-short n below = length-decimal-le 20 n (omega arith) (omega arith) below
 pub number_line : (n : ℕ) (text : List ℕ) → n < 2 ^ 64 → list_all (λ b. not (eqb b line_feed)) text ≡ true → length text ≤ 100 → is_line (decimal n ++ text) ≡ true
 number_line n text below test short =
     line_from (decimal n ++ text) (All-append (λ b. eqb b line_feed ≡ false) (decimal n) text (decimal_lacks line_feed n (lit< tt) below) (literal_lacks line_feed text test))
-      (omega (arith, length-append (decimal n) text, decimal-short n below, short))
+    (omega (arith, length-append (decimal n) text, decimal-short n below, short))
 
 each_byte : (parts : List (List ℕ)) (ns : List ℕ) → AllZip IsByte parts ns → AllByRecursion (λ n. n < 256) ns
 each_byte [] [] all = tt
@@ -96,5 +96,5 @@ pub address_between : (at : HostPort) (text front behind : List ℕ) → IsHostP
 address_between at text front behind is front_test behind_test front_short behind_short =
     let P : ℕ → Type 0 = λ b. eqb b line_feed ≡ false in
     line_from (front ++ host_port_text at ++ behind)
-      (All-append P (front ++ host_port_text at) behind (All-append P front (host_port_text at) (literal_lacks line_feed front front_test) (address-lacks at text is)) (literal_lacks line_feed behind behind_test))
-      (omega (arith, length-append (front ++ host_port_text at) behind, length-append front (host_port_text at), address-short at text is, front_short, behind_short))
+    (All-append P (front ++ host_port_text at) behind (All-append P front (host_port_text at) (literal_lacks line_feed front front_test) (address-lacks at text is)) (literal_lacks line_feed behind behind_test))
+    (omega (arith, length-append (front ++ host_port_text at) behind, length-append front (host_port_text at), address-short at text is, front_short, behind_short))

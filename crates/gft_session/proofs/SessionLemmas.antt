@@ -1,16 +1,16 @@
 -- How a session begins, goes on and ends.
-use Rattle.std.proofs.Common.{◌≡◌, ℕ, ◌++◌, Bool, List, [], ◌∷◌, Option, Result, Ok, Err, IsOk, refl, sym, ap, ◌∙◌, append_assoc, append-nil, subst, inl, inr, ◌⊎◌}
+use Rattle.std.proofs.Common.{◌≡◌, ℕ, ◌++◌, List, [], ◌∷◌, Option, Result, IsOk, refl, sym, ap, ◌∙◌, append_assoc, append-nil, subst, inl, inr, ◌⊎◌}
 use Rattle.std.specs.Io.KnownBytes.{Appends}
 use Rattle.gft_drive.specs.Words.{IsPartOf}
 use Rattle.gft_text.specs.LineStream.{Line, Told, told}
 use Rattle.gft_text.specs.Lines.{Held, lines_to_come, shown}
-use Rattle.gft_outside.specs.Words.{ControlInput, ControlState, Hears, said}
+use Rattle.gft_outside.specs.Words.{ControlInput, ControlState, said}
 use Rattle.gft_outside.proofs.Lemmas.{hears_more, hears_none}
 use Rattle.gft_session.specs.declared.session_end.SessionEnd.{SessionEnd}
 use Rattle.gft_session.specs.declared.session_end.SessionEnd.TheVariants as ends
 use Rattle.gft_session.specs.declared.session_end.Stopped.{Stopped}
 use Rattle.gft_session.specs.declared.session_end.Stopped.TheVariants as stops
-use Rattle.gft_session.specs.Conversation.{Closes, Converses, EndsByQuit, HasClosing, HasNoQuit, IsCauseOf, IsCut, IsCutOff, IsQuit, Leads, SoFar, Turn, before_last, closing, due, due_before_last, end_of, greeting, inputs_of, lines_of, replies_in}
+use Rattle.gft_session.specs.Conversation.{Closes, Converses, HasClosing, HasNoQuit, IsCauseOf, IsCut, IsCutOff, IsQuit, SoFar, Turn, before_last, closing, due, end_of, greeting, inputs_of, lines_of, replies_in}
 use Rattle.gft_session.specs.Hearing.{HearsLine, IsReason, StopsHearing, overlong_at, taken_at}
 use Rattle.gft_session.specs.Replies.{text_of_all}
 use Rattle.gft_session.specs.Settings.{Around, World}
@@ -156,10 +156,14 @@ stopped around idle start mid now a b c reader next o p q line result why far he
 pub never_begins : {L X : Type 0} {T : Type 0} (around : Around L) (idle : ℕ) (start : World L X) (control : ControlState) (o p : Option (List ℕ)) (result : Result T Stopped) (why : Stopped) →
     Puts result o p greeting → Converses around idle (end_of why) start start control control o p
 never_begins around idle start control o p result why puts = record {
-  turns = []; behind = []; bytes = puts.part; end = end_of why;
+  turns = [];
+  behind = [];
+  bytes = puts.part;
+  end = end_of why;
   heard = hears_none control;
   lines = rw (cut_overlong why, cut_taken why) told_nothing;
-  patient = tt; leads = refl;
+  patient = tt;
+  leads = refl;
   refused = leads_rose around start [] start refl;
   cause = cut_cause why idle [] control tt;
   put = puts.put;

@@ -4,7 +4,7 @@ use Rattle.gft_text.specs.declared.host_port.HostPort.{HostPort}
 use Rattle.gft_outside.specs.Words.{HandsOut, LaneState, LinkState, NotHandedOut, TakesBack}
 use Rattle.gft_outside.specs.declared.link.LinkError.{LinkError}
 use Rattle.gft_outside.specs.declared.link.Listening.{Listening}
-use Rattle.gft_session.specs.Settings.{Listeners, State, World, held}
+use Rattle.gft_session.specs.Settings.{Listeners, World, held}
 
 -- the lanes were given back, one after another
 abbrev pub Returns : {L X : Type 0} → (L → LaneState) → LinkState L X → LinkState L X → List L → Type 0

@@ -45,8 +45,13 @@ pub record Around (L : Type 0) : Type 0 where
 
 abbrev pub start_state : {L : Type 0} → State L
 start_state = record {
-  login = logins.Nobody; transfer_type = types.Ascii; mode = modes.Stream;
-  layout = layouts.Partitioned; parallel = 1; side = Nobody; rest = []
+  login = logins.Nobody;
+  transfer_type = types.Ascii;
+  mode = modes.Stream;
+  layout = layouts.Partitioned;
+  parallel = 1;
+  side = Nobody;
+  rest = [];
 }
 
 -- the session at its start, over a link
@@ -93,9 +98,13 @@ side_of (sides.Targets places) = Targets places
 
 abbrev pub state_of : {L : Type 0} → Settings L → State L
 state_of settings = record {
-  login = settings.login; transfer_type = settings.transfer_type; mode = settings.mode;
-  layout = settings.layout; parallel = settings.parallel; side = side_of settings.side;
-  rest = settings.rest.ranges
+  login = settings.login;
+  transfer_type = settings.transfer_type;
+  mode = settings.mode;
+  layout = settings.layout;
+  parallel = settings.parallel;
+  side = side_of settings.side;
+  rest = settings.rest.ranges;
 }
 
 abbrev pub world : {L X : Type 0} → Settings L → LinkState L X → World L X

@@ -1,5 +1,5 @@
 -- What is put of a reply.
-use Rattle.std.specs.Prelude.{◌≡◌, ℕ, List, Option, Result, Ok, Err, IsOk}
+use Rattle.std.specs.Prelude.{◌≡◌, ℕ, List, Option, Result, Err, IsOk}
 use Rattle.std.specs.Io.KnownBytes.{Appends}
 use Rattle.gft_base.specs.Words.{Rose}
 use Rattle.gft_drive.specs.Words.{IsPartOf}

@@ -1,5 +1,5 @@
 -- The session table: from a world and one line to the replies that the line brings and the world after it.
-use Rattle.std.specs.Prelude.{◌≡◌, ◌⊎◌, ◌||◌, Bool, true, false, MatchBool, if◌then◌else◌}
+use Rattle.std.specs.Prelude.{◌⊎◌, ◌||◌, Bool, true, false, MatchBool, if◌then◌else◌}
 use Rattle.std.specs.Prelude.{ℕ, List, [], ◌∷◌, length}
 use Rattle.gft_text.specs.declared.host_port.HostPort.{HostPort}
 use Rattle.gft_reply.specs.declared.reply.Reply.{Reply}
@@ -29,7 +29,7 @@ Row around commands.Noop old replies new = Says kinds.Done old.state old replies
 Row around commands.Feat old replies new = Says kinds.Features old.state old replies new
 Row around (commands.SetType letter) old replies new =
     Says (type_reply letter) (record old.state { transfer_type = after_type letter old.state.transfer_type })
-      old replies new
+    old replies new
 Row around (commands.SetMode letter) old replies new =
     Says (mode_reply letter) (record old.state { mode = after_mode letter old.state.mode }) old replies new
 Row around (commands.SetStru letter) old replies new =
@@ -82,8 +82,8 @@ dropped_by command state = if is_transfer command then without_list state else s
 abbrev pub AnswersCommand : {L X : Type 0} → Around L → Command → World L X → List Reply → World L X → Type 0
 AnswersCommand around command old replies new =
     MatchBool (is_free command || is_in old.state.login)
-      (Row around command old replies new)
-      (Says kinds.LogInFirst (dropped_by command old.state) old replies new)
+    (Row around command old replies new)
+    (Says kinds.LogInFirst (dropped_by command old.state) old replies new)
 
 -- the line is a command, and is answered
 pub record Reads {L X : Type 0} (around : Around L) (line : List ℕ) (old : World L X) (replies : List Reply)

@@ -39,7 +39,8 @@ pub(crate) fn pass<L>(settings: &mut Settings<L>) -> ReplyKind
 pub(crate) fn set_type<L>(letter: u8, settings: &mut Settings<L>) -> ReplyKind
     ensures reply { result ≡ type_reply letter }
     ensures set { settings.new ≡ record settings.old {
-        transfer_type = after_type letter settings.old.transfer_type } }
+      transfer_type = after_type letter settings.old.transfer_type;
+    } }
     ensures text { HasText result }
 {
     if letter == b'I' {

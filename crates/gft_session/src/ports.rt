@@ -18,7 +18,11 @@ use std::alloc::Global;
 use std::mem;
 
 /// Listens on one stripe, in place of the lanes that wait (RFC 959, PASV).
-pub(crate) fn passive<K: Link>(alloc: Global, settings: &mut Settings<K::In>, link: &mut K) -> ReplyKind
+pub(crate) fn passive<K: Link>(
+    alloc: Global,
+    settings: &mut Settings<K::In>,
+    link: &mut K,
+) -> ReplyKind
     requires ours { HasHandedOut (world settings.old (K.state link.old)) }
     ensures answers { AnswersListen K.In.state 1 IsPassive (world settings.old (K.state link.old))
         (reply_of result ∷ []) (world settings.new (K.state link.new)) }
@@ -62,7 +66,11 @@ fn refused(why: LinkError) -> ReplyKind
 }
 
 /// Keeps one target (RFC 959, PORT), and gives the lanes that wait back.
-pub(crate) fn set_target<K: Link>(at: HostPort, settings: &mut Settings<K::In>, link: &mut K) -> ReplyKind
+pub(crate) fn set_target<K: Link>(
+    at: HostPort,
+    settings: &mut Settings<K::In>,
+    link: &mut K,
+) -> ReplyKind
     requires ours { HasHandedOut (world settings.old (K.state link.old)) }
     ensures answers { SaysAndReturns K.In.state (ReplyKind.TargetsSet 1)
         (with_targets (state_of settings.old) (at ∷ [])) (world settings.old (K.state link.old))
@@ -132,9 +140,9 @@ fn listen<K: Link>(
     requires ours { HasHandedOut (world settings.old (K.state link.old)) }
     ensures listens { MatchResult result
         (λ places. ListensOn K.In.state stripes (world settings.old (K.state link.old)) places.items
-          (world settings.new (K.state link.new)))
+        (world settings.new (K.state link.new)))
         (λ why. ListensNot why (world settings.old (K.state link.old))
-          (world settings.new (K.state link.new))) }
+        (world settings.new (K.state link.new))) }
     ensures ours { KeepsCount (world settings.old (K.state link.old)) (world settings.new (K.state link.new)) }
 {
     // The room comes first, so that no memory is refused behind the link's answer.

@@ -7,8 +7,9 @@ ghost use Rattle.gft_session.specs.Replies.{HasText, reply_of};
 ghost use Rattle.gft_session.specs.Settings.{is_in, state_of, world};
 ghost use Rattle.gft_session.specs.Table.{AnswersCommand, Row, is_free, is_transfer};
 
-use crate::choices::{drop_list, folder, name_user, pass, protection};
-use crate::choices::{set_mode, set_options, set_type, structure};
+use crate::choices::{
+    drop_list, folder, name_user, pass, protection, set_mode, set_options, set_type, structure,
+};
 use crate::ports::{passive, set_target, set_targets, striped};
 use crate::reply_kind::ReplyKind;
 use crate::settings::{Login, Settings};

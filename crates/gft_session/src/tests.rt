@@ -51,7 +51,10 @@ fn run<R: Wait>(
     out: &mut MemorySink,
     link: &mut MemoryLink,
 ) -> SessionEnd {
-    let config = Config { stripes: 2, idle: 3 };
+    let config = Config {
+        stripes: 2,
+        idle: 3,
+    };
     run_session(rt, alloc, control, out, link, &config)
 }
 
@@ -69,7 +72,12 @@ fn run_script<R: Wait>(
 }
 
 /// The replies behind the greeting to a peer that says this, with so many lanes to come.
-fn replies<R: Wait>(rt: &R, alloc: Global, script: &[u8], lanes: u16) -> Result<Vec<u8>, OutOfMemory> {
+fn replies<R: Wait>(
+    rt: &R,
+    alloc: Global,
+    script: &[u8],
+    lanes: u16,
+) -> Result<Vec<u8>, OutOfMemory> {
     let mut out = sink(alloc, Vec::new(alloc))?;
     let mut link = link_of(alloc, lanes, Vec::new(alloc))?;
     run_script(rt, alloc, script, &mut out, &mut link)?;
@@ -78,7 +86,12 @@ fn replies<R: Wait>(rt: &R, alloc: Global, script: &[u8], lanes: u16) -> Result<
 }
 
 /// The same behind a login.
-fn replies_in<R: Wait>(rt: &R, alloc: Global, script: &[u8], lanes: u16) -> Result<Vec<u8>, OutOfMemory> {
+fn replies_in<R: Wait>(
+    rt: &R,
+    alloc: Global,
+    script: &[u8],
+    lanes: u16,
+) -> Result<Vec<u8>, OutOfMemory> {
     let mut all = Vec::from_slice(alloc, LOGIN)?;
     all.extend_from_slice(script)?;
     let replies = replies(rt, alloc, &all, lanes)?;
@@ -108,7 +121,8 @@ fn commands_before_the_login(rt: HostRuntime) -> Result<(), Fail> {
 fn features_are_listed(rt: HostRuntime) -> Result<(), Fail> {
     let alloc = rt.alloc();
     let said = replies(&rt, alloc, b"FEAT\r\n", 0)?;
-    let want = b"211-Extensions supported:\r\n DCAU\r\n ERET\r\n ESTO\r\n PARALLEL\r\n SBUF\r\n SIZE\r\n SPAS\r\n SPOR\r\n211 End\r\n".as_slice();
+    let want =
+        b"211-Extensions supported:\r\n DCAU\r\n ERET\r\n ESTO\r\n PARALLEL\r\n SBUF\r\n SIZE\r\n SPAS\r\n SPOR\r\n211 End\r\n".as_slice();
     assert_eq!(rt; said.as_slice(), want);
     Ok(())
 }
@@ -146,7 +160,10 @@ fn other_lines_are_answered(rt: HostRuntime) -> Result<(), Fail> {
         (b"STOR a\r\n", b"504 Not built.\r\n"),
         (b"DELE a\r\n", b"504 Not built.\r\n"),
         (b"ABOR\r\n", b"225 No transfer in progress.\r\n"),
-        (b"SPOR 127,0,0,1,200,10 127,0,0,1,200,11\r\n", b"200 2 targets set.\r\n"),
+        (
+            b"SPOR 127,0,0,1,200,10 127,0,0,1,200,11\r\n",
+            b"200 2 targets set.\r\n",
+        ),
     ];
     for (script, want) in rows {
         let said = replies_in(&rt, alloc, script, 0)?;
@@ -155,10 +172,10 @@ fn other_lines_are_answered(rt: HostRuntime) -> Result<(), Fail> {
     Ok(())
 }
 
-const SCRIPT: &[u8] =
-    b"USER anonymous\r\nPASS x\r\nTYPE I\r\nMODE E\r\nDCAU N\r\nSPAS\r\nQUIT\r\n";
+const SCRIPT: &[u8] = b"USER anonymous\r\nPASS x\r\nTYPE I\r\nMODE E\r\nDCAU N\r\nSPAS\r\nQUIT\r\n";
 
-const SCRIPT_REPLIES: &[u8] = b"220 GridFTP server ready.\r\n331 Password please.\r\n230 Logged in.\r\n200 Type I.\r\n200 Mode E.\r\n200 DCAU N.\r\n229-Entering Striped Passive Mode.\r\n 127,0,0,1,200,10\r\n 127,0,0,1,200,11\r\n229 End\r\n221 Goodbye.\r\n";
+const SCRIPT_REPLIES: &[u8] =
+    b"220 GridFTP server ready.\r\n331 Password please.\r\n230 Logged in.\r\n200 Type I.\r\n200 Mode E.\r\n200 DCAU N.\r\n229-Entering Striped Passive Mode.\r\n 127,0,0,1,200,10\r\n 127,0,0,1,200,11\r\n229 End\r\n221 Goodbye.\r\n";
 
 // The peer says the script in two pieces.
 #[test]
@@ -166,11 +183,18 @@ fn cuts_change_no_reply(rt: HostRuntime) -> Result<(), Fail> {
     let alloc = rt.alloc();
     for cut in 0..=SCRIPT.len() {
         let (front, behind) = SCRIPT.split_at(cut);
-        let said = vec![in alloc; bytes(alloc, front)?, ControlItem::Quiet, bytes(alloc, behind)?]?;
+        let said = vec![in alloc;
+            bytes(alloc, front)?,
+            ControlItem::Quiet,
+            bytes(alloc, behind)?,
+        ]?;
         let mut control = MemoryControl::new(said, Vec::new(alloc));
         let mut out = sink(alloc, Vec::new(alloc))?;
         let mut link = link_of(alloc, 2, Vec::new(alloc))?;
-        assert_eq!(rt; run(&rt, alloc, &mut control, &mut out, &mut link), SessionEnd::Quit);
+        assert_eq!(rt;
+            run(&rt, alloc, &mut control, &mut out, &mut link),
+            SessionEnd::Quit
+        );
         assert_eq!(rt; out.bytes(), SCRIPT_REPLIES, "cut {cut}");
         assert_eq!(rt; link.handed_out(), 0);
     }
@@ -241,7 +265,10 @@ fn silences_in_a_row_end_it(rt: HostRuntime) -> Result<(), Fail> {
     ]?;
     let (end, out) = ending(&rt, alloc, items, Vec::new(alloc), Vec::new(alloc))?;
     assert_eq!(rt; end, SessionEnd::IdleControl);
-    assert_eq!(rt; out.bytes(), b"220 GridFTP server ready.\r\n421 Idle, closing.\r\n".as_slice());
+    assert_eq!(rt;
+        out.bytes(),
+        b"220 GridFTP server ready.\r\n421 Idle, closing.\r\n".as_slice()
+    );
     Ok(())
 }
 
@@ -283,8 +310,14 @@ fn listening_fails_where_a_lane_waits(rt: HostRuntime) -> Result<(), Fail> {
     let mut out = sink(alloc, Vec::new(alloc))?;
     let mut link = link_of(alloc, 2, vec![in alloc; 2]?)?;
     let script = b"USER x\r\nPASS x\r\nPASV\r\nPASV\r\nQUIT\r\n";
-    assert_eq!(rt; run_script(&rt, alloc, script, &mut out, &mut link)?, SessionEnd::Quit);
-    let behind = out.bytes().get(GREETING.len() + LOGIN_REPLIES.len()..).unwrap_or(b"");
+    assert_eq!(rt;
+        run_script(&rt, alloc, script, &mut out, &mut link)?,
+        SessionEnd::Quit
+    );
+    let behind = out
+        .bytes()
+        .get(GREETING.len() + LOGIN_REPLIES.len()..)
+        .unwrap_or(b"");
     let want =
         b"227 Entering Passive Mode (127,0,0,1,200,10)\r\n425 Cannot listen.\r\n221 Goodbye.\r\n";
     assert_eq!(rt; behind, want.as_slice());

@@ -1,4 +1,4 @@
-use Rattle.std.proofs.Common.{◌≡◌, ◌∷◌, [], arith, ap, ◌∙◌, refl, take, length, Err}
+use Rattle.std.proofs.Common.{◌≡◌, ◌∷◌, [], arith, ap, ◌∙◌, refl, length, Err}
 use Rattle.gft_outside.specs.Words.{Pause, Said}
 use Rattle.gft_outside.proofs.Lemmas.{hears_more}
 use Rattle.gft_session.proofs.HearingLemmas.{brings_more, byte_of, one_fed, one_heard, told_nothing, told_overlong}

@@ -1,4 +1,4 @@
-use Rattle.std.proofs.Common.{◌≡◌, ◌∷◌, [], ◌++◌, sym, ap, ◌∙◌, arith, append_assoc, length, length-append}
+use Rattle.std.proofs.Common.{◌∷◌, [], ◌++◌, sym, ap, ◌∙◌, arith, append_assoc, length, length-append}
 use Rattle.gft_session.proofs.PortLemmas.{returns_more}
 use Rattle.gft_session.proofs.ports.give_back.Goals as goal
 

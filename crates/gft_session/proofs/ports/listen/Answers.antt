@@ -1,4 +1,4 @@
-use Rattle.std.proofs.Common.{◌≡◌, ap, arith, length}
+use Rattle.std.proofs.Common.{ap, arith, length}
 use Rattle.std.proofs.lemmas.List.{length-map}
 use Rattle.gft_session.specs.Settings.{lanes_in, side_of}
 use Rattle.gft_session.proofs.ports.listen.Goals as goal

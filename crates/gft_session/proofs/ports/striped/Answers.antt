@@ -1,4 +1,4 @@
-use Rattle.std.proofs.Common.{◌≡◌, refl, inr}
+use Rattle.std.proofs.Common.{refl, inr}
 use Rattle.gft_session.specs.declared.reply_kind.ReplyKind.TheVariants.{Striped}
 use Rattle.gft_session.proofs.ports.striped.Goals as goal
 

@@ -1,4 +1,4 @@
-use Rattle.std.proofs.Common.{◌≡◌, ◌++◌, arith, refl, rules}
+use Rattle.std.proofs.Common.{◌≡◌, ◌++◌, arith, refl}
 use Rattle.std.specs.Prelude.{codes}
 use Rattle.std.proofs.lemmas.Grind.{common_steps}
 use Rattle.gft_text.specs.Words.{host_port_text}

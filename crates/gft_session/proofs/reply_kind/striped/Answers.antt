@@ -1,4 +1,4 @@
-use Rattle.std.proofs.Common.{◌≡◌, ◌≤◌, ◌∷◌, ◌++◌, [], length, length-append, length-take, map, take, ap, refl, arith, rules}
+use Rattle.std.proofs.Common.{◌≡◌, ◌∷◌, ◌++◌, [], length, length-append, length-take, take, ap, refl, arith, rules}
 use Rattle.std.specs.Prelude.{codes}
 use Rattle.std.proofs.lemmas.Grind.{common_steps}
 use Rattle.std.proofs.lemmas.List.{length-map}
@@ -10,9 +10,10 @@ pub of_lines-requires-clause-count : goal.of_lines-requires-clause-count
 of_lines-requires-clause-count c =
     let lines : c.push-2.new.self ≡ c.places.lines ++ codes "End" ∷ [] = search rules in
     let len = ap length c.places.invariant.lines in
-    let pushed = ap length lines in
-    (omega (arith, pushed, length-append c.places.lines (codes "End" ∷ [])),
-      omega (arith, pushed, len, length-append c.places.lines (codes "End" ∷ []), length-map (take c.places.at-index c.args.places.now) host_port_text, length-take c.places.at-index c.args.places.now, c.requires))
+    let pushed = ap length lines in (
+      omega (arith, pushed, length-append c.places.lines (codes "End" ∷ [])),
+      omega (arith, pushed, len, length-append c.places.lines (codes "End" ∷ []), length-map (take c.places.at-index c.args.places.now) host_port_text, length-take c.places.at-index c.args.places.now, c.requires),
+    )
 
 pub of_lines-requires-clause-lines : goal.of_lines-requires-clause-lines
 of_lines-requires-clause-lines c =

@@ -1,4 +1,4 @@
-use Rattle.std.proofs.Common.{◌≡◌, ◌∷◌, ◌++◌, [], map, take, true}
+use Rattle.std.proofs.Common.{◌≡◌, ◌∷◌, map, take, true}
 use Rattle.std.specs.Prelude.{codes}
 use Rattle.std.specs.List.{list_all}
 use Rattle.gft_text.specs.Words.{host_port_text}

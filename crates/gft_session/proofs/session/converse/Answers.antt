@@ -1,4 +1,4 @@
-use Rattle.std.proofs.Common.{◌≡◌, ◌≤◌, arith, refl, sym, ◌∙◌}
+use Rattle.std.proofs.Common.{arith, refl, ◌∙◌}
 use Rattle.gft_session.proofs.SessionLemmas.{begins, closed, goes_on, never_begins, quits, stopped}
 use Rattle.gft_session.proofs.session.converse.Goals as goal
 
@@ -30,12 +30,12 @@ lines-preserved g c = record {
 pub returns-in-Ok-false-clause-talk : goal.returns-in-Ok-false-clause-talk
 returns-in-Ok-false-clause-talk g c =
     quits _ _ _ _ _ _ _ _ _ _ _ _ _ _ _ c.lines.invariant.so_far c.in-Ok-next_line.ensures.heard c.line.ensures.shown
-      c.in-Ok-false.ensures.answers.gives refl (rw c.in-Ok-false.field-0-test at c.in-Ok-false.ensures.answers.goes_on)
+    c.in-Ok-false.ensures.answers.gives refl (rw c.in-Ok-false.field-0-test at c.in-Ok-false.ensures.answers.goes_on)
 
 pub returns-in-Err-answer-clause-talk : goal.returns-in-Err-answer-clause-talk
 returns-in-Err-answer-clause-talk g c =
     rw c.ended-in-Err-answer.ensures (stopped _ _ _ _ _ _ _ _ _ _ _ _ _ _ _ c.in-Err-answer.stopped c.lines.invariant.so_far c.in-Ok-next_line.ensures.heard c.line.ensures.shown
-      c.answer.ensures.answers.gives)
+    c.answer.ensures.answers.gives)
 
 pub returns-in-Err-next_line-clause-talk : goal.returns-in-Err-next_line-clause-talk
 returns-in-Err-next_line-clause-talk g c =
