@@ -8,7 +8,7 @@ use Rattle.std.proofs.lemmas.List.Folds.{list_all-append}
 use Rattle.std.proofs.lemmas.List.Sums.{list_all-from_AllPass}
 use Rattle.std.proofs.lemmas.List.Elements.{All-append, All-nil}
 use Rattle.gft_base.specs.Words.{Lacks, comma, line_feed}
-use Rattle.gft_text.specs.HostPort.{IsByte, IsHostPort, host_port_text, numbers_of}
+use Rattle.gft_text.specs.Words.{IsByte, IsHostPort, host_port_text, numbers_of}
 use Rattle.gft_text.specs.declared.host_port.HostPort.{HostPort}
 use Rattle.gft_text.proofs.Lemmas.{decimal_lacks, lacks_joined, literal_lacks}
 use Rattle.gft_reply.specs.declared.reply.Reply.{Reply}

@@ -5,8 +5,8 @@ use Rattle.std.specs.Prelude.{Bool, MatchBool, List, [], ◌∷◌, ◌++◌, Op
 use Rattle.std.specs.Io.KnownBytes.{Appends}
 use Rattle.gft_base.specs.Words.{Rose}
 use Rattle.gft_drive.specs.Words.{IsPartOf}
-use Rattle.gft_text.specs.Words.{Line, Told, told}
-use Rattle.gft_text.specs.Lines.{Held, lines_to_come}
+use Rattle.gft_text.specs.Words.{Held, Line, Told, told}
+use Rattle.gft_text.specs.Lines.{lines_to_come}
 use Rattle.gft_reply.specs.declared.reply.Reply.{Reply}
 use Rattle.gft_reply.specs.Words.{reply_text}
 use Rattle.gft_command.specs.Words.{IsCommand}

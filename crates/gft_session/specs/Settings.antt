@@ -82,7 +82,10 @@ or_kept (Some named) kept = named
 -- only the named settings change
 abbrev pub with_options : {L : Type 0} → State L → RetrOptions → State L
 with_options state options =
-    record state { layout = or_kept options.layout state.layout; parallel = or_kept options.parallel state.parallel }
+    record state {
+      layout = or_kept options.layout state.layout;
+      parallel = or_kept options.parallel state.parallel;
+    }
 
 -- the kept REST list is dropped
 abbrev pub without_list : {L : Type 0} → State L → State L

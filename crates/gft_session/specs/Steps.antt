@@ -9,7 +9,8 @@ use Rattle.gft_session.specs.declared.session_end.Stopped.TheVariants as stops
 use Rattle.gft_session.specs.Replies.{text_of_all}
 
 -- a text was put whole, or where the call failed a part of it
-pub record Puts {T : Type 0} (result : Result T Stopped) (old new : Option (List ℕ)) (text : List ℕ) : Type 0 where
+pub record Puts {T : Type 0} (result : Result T Stopped) (old new : Option (List ℕ))
+    (text : List ℕ) : Type 0 where
   pub part : List ℕ
   pub put : Appends old new part
   pub is_part : IsPartOf part text

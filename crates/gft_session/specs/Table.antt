@@ -23,7 +23,8 @@ abbrev pub Row : {L X : Type 0} → Around L → Command → World L X → List 
 Row around (commands.User _) old replies new =
     Says kinds.PasswordPlease (record old.state { login = logins.Named }) old replies new
 Row around (commands.Pass _) old replies new =
-    Says (pass_reply old.state.login) (record old.state { login = after_pass old.state.login }) old replies new
+    Says (pass_reply old.state.login) (record old.state { login = after_pass old.state.login })
+    old replies new
 Row around commands.Quit old replies new = Says kinds.Goodbye old.state old replies new
 Row around commands.Noop old replies new = Says kinds.Done old.state old replies new
 Row around commands.Feat old replies new = Says kinds.Features old.state old replies new
@@ -47,7 +48,8 @@ Row around commands.Spas old replies new = AnswersListen around.lane around.stri
 Row around (commands.Port at) old replies new =
     SaysAndReturns around.lane (kinds.TargetsSet 1) (with_targets old.state (at ∷ [])) old replies new
 Row around (commands.Spor places) old replies new =
-    SaysAndReturns around.lane (kinds.TargetsSet (length places)) (with_targets old.state places) old replies new
+    SaysAndReturns around.lane (kinds.TargetsSet (length places)) (with_targets old.state places)
+    old replies new
 Row around (commands.Rest list) old replies new =
     Says kinds.RestNoted (record old.state { rest = list.ranges }) old replies new
 Row around (commands.Stor _) old replies new = Says kinds.NotBuilt (without_list old.state) old replies new

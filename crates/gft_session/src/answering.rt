@@ -36,7 +36,8 @@ pub(crate) fn answer<W: Sink, K: Link>(
         (world settings.old (K.state link.old)) (world settings.new (K.state link.new)) result
         (W.written out.old) (W.written out.new) }
     ensures open { OnOk result (W.is_open out.new) }
-    ensures ours { KeepsCount (world settings.old (K.state link.old)) (world settings.new (K.state link.new)) }
+    ensures ours { KeepsCount (world settings.old (K.state link.old))
+        (world settings.new (K.state link.new)) }
     ensures stopped { HasStopped (W.faults out.old) (W.faults out.new) result }
 {
     match parse(alloc, line) {

@@ -5,7 +5,8 @@ ghost use Rattle.gft_opts.specs.declared.TheConstants.{MAX_TARGETS};
 ghost use Rattle.gft_session.specs.Listeners.{HasHandedOut, KeepsCount, ListensNot, ListensOn, Returns};
 ghost use Rattle.gft_session.specs.Listeners.{lanes_of, places_of};
 ghost use Rattle.gft_session.specs.Replies.{HasText, reply_of};
-ghost use Rattle.gft_session.specs.Saying.{AnswersListen, IsPassive, IsStriped, SaysAndReturns, refused_reply};
+ghost use Rattle.gft_session.specs.Saying.{AnswersListen, IsPassive, IsStriped, SaysAndReturns};
+ghost use Rattle.gft_session.specs.Saying.{refused_reply};
 ghost use Rattle.gft_session.specs.Settings.{lanes_in, side_of, state_of, world};
 ghost use Rattle.gft_session.specs.Table.{with_targets};
 
@@ -26,7 +27,8 @@ pub(crate) fn passive<K: Link>(
     requires ours { HasHandedOut (world settings.old (K.state link.old)) }
     ensures answers { AnswersListen K.In.state 1 IsPassive (world settings.old (K.state link.old))
         (reply_of result ∷ []) (world settings.new (K.state link.new)) }
-    ensures ours { KeepsCount (world settings.old (K.state link.old)) (world settings.new (K.state link.new)) }
+    ensures ours { KeepsCount (world settings.old (K.state link.old))
+        (world settings.new (K.state link.new)) }
     ensures text { HasText result }
 {
     match listen(alloc, 1, settings, link) {
@@ -46,7 +48,8 @@ pub(crate) fn striped<K: Link>(
     requires ours { HasHandedOut (world settings.old (K.state link.old)) }
     ensures answers { AnswersListen K.In.state stripes IsStriped (world settings.old (K.state link.old))
         (reply_of result ∷ []) (world settings.new (K.state link.new)) }
-    ensures ours { KeepsCount (world settings.old (K.state link.old)) (world settings.new (K.state link.new)) }
+    ensures ours { KeepsCount (world settings.old (K.state link.old))
+        (world settings.new (K.state link.new)) }
     ensures text { HasText result }
 {
     match listen(alloc, stripes, settings, link) {
@@ -75,7 +78,8 @@ pub(crate) fn set_target<K: Link>(
     ensures answers { SaysAndReturns K.In.state (ReplyKind.TargetsSet 1)
         (with_targets (state_of settings.old) (at ∷ [])) (world settings.old (K.state link.old))
         (reply_of result ∷ []) (world settings.new (K.state link.new)) }
-    ensures ours { KeepsCount (world settings.old (K.state link.old)) (world settings.new (K.state link.new)) }
+    ensures ours { KeepsCount (world settings.old (K.state link.old))
+        (world settings.new (K.state link.new)) }
     ensures text { HasText result }
 {
     let old = mem::replace(&mut settings.side, DataSide::Target(at));
@@ -93,7 +97,8 @@ pub(crate) fn set_targets<K: Link>(
     ensures answers { SaysAndReturns K.In.state (ReplyKind.TargetsSet (length places))
         (with_targets (state_of settings.old) places) (world settings.old (K.state link.old))
         (reply_of result ∷ []) (world settings.new (K.state link.new)) }
-    ensures ours { KeepsCount (world settings.old (K.state link.old)) (world settings.new (K.state link.new)) }
+    ensures ours { KeepsCount (world settings.old (K.state link.old))
+        (world settings.new (K.state link.new)) }
     ensures text { HasText result }
 {
     let count = places.count();
@@ -143,7 +148,8 @@ fn listen<K: Link>(
         (world settings.new (K.state link.new)))
         (λ why. ListensNot why (world settings.old (K.state link.old))
         (world settings.new (K.state link.new))) }
-    ensures ours { KeepsCount (world settings.old (K.state link.old)) (world settings.new (K.state link.new)) }
+    ensures ours { KeepsCount (world settings.old (K.state link.old))
+        (world settings.new (K.state link.new)) }
 {
     // The room comes first, so that no memory is refused behind the link's answer.
     let Ok(mut lanes) = Vec::with_capacity(alloc, usize::from(stripes)) else {

@@ -64,7 +64,8 @@ fn converse<C: Control, W: Sink, K: Link, R: Wait>(
     ensures talk { Converses (record { stripes = config.now.stripes; lane = K.In.state }) config.now.idle
         result (world settings.old (K.state link.old)) (world settings.new (K.state link.new))
         (C.state control.old) (C.state control.new) (W.written out.old) (W.written out.new) }
-    ensures ours { KeepsCount (world settings.old (K.state link.old)) (world settings.new (K.state link.new)) }
+    ensures ours { KeepsCount (world settings.old (K.state link.old))
+        (world settings.new (K.state link.new)) }
     ensures fault { HasFault result (C.state control.old).faults (C.state control.new).faults
         (W.faults out.old) (W.faults out.new) }
 {

@@ -29,8 +29,10 @@ pub(crate) fn step<K: Link>(
     requires stripes { (1 ≤ stripes) × (stripes ≤ MAX_TARGETS) }
     requires ours { HasHandedOut (world settings.old (K.state link.old)) }
     ensures answers { AnswersCommand (record { stripes = stripes; lane = K.In.state }) command
-        (world settings.old (K.state link.old)) (reply_of result ∷ []) (world settings.new (K.state link.new)) }
-    ensures ours { KeepsCount (world settings.old (K.state link.old)) (world settings.new (K.state link.new)) }
+        (world settings.old (K.state link.old)) (reply_of result ∷ [])
+        (world settings.new (K.state link.new)) }
+    ensures ours { KeepsCount (world settings.old (K.state link.old))
+        (world settings.new (K.state link.new)) }
     ensures text { HasText result }
 {
     let may_ask = is_free(&command) || is_in(settings.login);
@@ -54,8 +56,10 @@ fn row<K: Link>(
     requires stripes { (1 ≤ stripes) × (stripes ≤ MAX_TARGETS) }
     requires ours { HasHandedOut (world settings.old (K.state link.old)) }
     ensures row { Row (record { stripes = stripes; lane = K.In.state }) command
-        (world settings.old (K.state link.old)) (reply_of result ∷ []) (world settings.new (K.state link.new)) }
-    ensures ours { KeepsCount (world settings.old (K.state link.old)) (world settings.new (K.state link.new)) }
+        (world settings.old (K.state link.old)) (reply_of result ∷ [])
+        (world settings.new (K.state link.new)) }
+    ensures ours { KeepsCount (world settings.old (K.state link.old))
+        (world settings.new (K.state link.new)) }
     ensures text { HasText result }
 {
     match command {

@@ -1,3 +1,5 @@
+ghost use Rattle.std.specs.Prelude.{◌≡◌, IfOk, true};
+
 use super::*;
 use gft_base::OutOfMemory;
 use gft_core::Octets;
@@ -35,7 +37,9 @@ fn link_of(alloc: Global, lanes: u16, failing: Vec<u32>) -> Result<MemoryLink, O
 }
 
 /// A sink with room enough, where the puts of these numbers fail.
-fn sink(alloc: Global, failing: Vec<u32>) -> Result<MemorySink, OutOfMemory> {
+fn sink(alloc: Global, failing: Vec<u32>) -> Result<MemorySink, OutOfMemory>
+    ensures { IfOk result (λ sink. sink.is_open ≡ true) }
+{
     MemorySink::new(alloc, 4096, failing)
 }
 
@@ -50,7 +54,9 @@ fn run<R: Wait>(
     control: &mut MemoryControl,
     out: &mut MemorySink,
     link: &mut MemoryLink,
-) -> SessionEnd {
+) -> SessionEnd
+    requires { out.old.is_open ≡ true }
+{
     let config = Config {
         stripes: 2,
         idle: 3,
@@ -65,7 +71,9 @@ fn run_script<R: Wait>(
     script: &[u8],
     out: &mut MemorySink,
     link: &mut MemoryLink,
-) -> Result<SessionEnd, OutOfMemory> {
+) -> Result<SessionEnd, OutOfMemory>
+    requires { out.old.is_open ≡ true }
+{
     let said = bytes(alloc, script)?;
     let mut control = MemoryControl::new(vec![in alloc; said]?, Vec::new(alloc));
     Ok(run(rt, alloc, &mut control, out, link))
@@ -121,8 +129,9 @@ fn commands_before_the_login(rt: HostRuntime) -> Result<(), Fail> {
 fn features_are_listed(rt: HostRuntime) -> Result<(), Fail> {
     let alloc = rt.alloc();
     let said = replies(&rt, alloc, b"FEAT\r\n", 0)?;
-    let want =
-        b"211-Extensions supported:\r\n DCAU\r\n ERET\r\n ESTO\r\n PARALLEL\r\n SBUF\r\n SIZE\r\n SPAS\r\n SPOR\r\n211 End\r\n".as_slice();
+    let want = b"211-Extensions supported:\r\n DCAU\r\n ERET\r\n ESTO\r\n PARALLEL\r\n \
+          SBUF\r\n SIZE\r\n SPAS\r\n SPOR\r\n211 End\r\n"
+        .as_slice();
     assert_eq!(rt; said.as_slice(), want);
     Ok(())
 }
@@ -175,7 +184,9 @@ fn other_lines_are_answered(rt: HostRuntime) -> Result<(), Fail> {
 const SCRIPT: &[u8] = b"USER anonymous\r\nPASS x\r\nTYPE I\r\nMODE E\r\nDCAU N\r\nSPAS\r\nQUIT\r\n";
 
 const SCRIPT_REPLIES: &[u8] =
-    b"220 GridFTP server ready.\r\n331 Password please.\r\n230 Logged in.\r\n200 Type I.\r\n200 Mode E.\r\n200 DCAU N.\r\n229-Entering Striped Passive Mode.\r\n 127,0,0,1,200,10\r\n 127,0,0,1,200,11\r\n229 End\r\n221 Goodbye.\r\n";
+    b"220 GridFTP server ready.\r\n331 Password please.\r\n230 Logged in.\r\n\
+200 Type I.\r\n200 Mode E.\r\n200 DCAU N.\r\n229-Entering Striped Passive Mode.\r\n \
+127,0,0,1,200,10\r\n 127,0,0,1,200,11\r\n229 End\r\n221 Goodbye.\r\n";
 
 // The peer says the script in two pieces.
 #[test]
