@@ -1,0 +1,7 @@
+mod PutLemmas
+mod QuitLemmas
+mod HearingLemmas
+mod PortLemmas
+mod ReplyLemmas
+mod RefusalLemmas
+mod SessionLemmas

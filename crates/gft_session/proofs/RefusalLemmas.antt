@@ -1,0 +1,158 @@
+-- Each reply of code 425 has its fault of the link.
+use Rattle.std.proofs.Common.{◌≡◌, ◌≤◌, ℕ, ◌+◌, ◌==◌, ◌||◌, Bool, true, false, MatchBool, if◌then◌else◌, List, [], ◌∷◌, length, refl, inl, inr, arith}
+use Rattle.gft_reply.specs.declared.reply.Reply.{Reply}
+use Rattle.gft_text.specs.declared.host_port.HostPort.{HostPort}
+use Rattle.gft_command.specs.declared.command.Command.{Command}
+use Rattle.gft_command.specs.declared.command.Command.TheVariants as commands
+use Rattle.gft_command.specs.declared.error.CommandError.{CommandError}
+use Rattle.gft_command.specs.declared.error.CommandError.TheVariants as unread
+use Rattle.gft_outside.specs.Words.{LaneState, LinkState, NotHandedOut}
+use Rattle.gft_outside.specs.declared.link.LinkError.{LinkError}
+use Rattle.gft_outside.specs.declared.link.LinkError.TheVariants as errors
+use Rattle.gft_session.specs.declared.reply_kind.ReplyKind.{ReplyKind}
+use Rattle.gft_session.specs.declared.reply_kind.ReplyKind.TheVariants as kinds
+use Rattle.gft_session.specs.declared.settings.Login.{Login}
+use Rattle.gft_session.specs.declared.settings.Login.TheVariants as logins
+use Rattle.gft_session.specs.Conversation.{Leads, RoseBy, Turn, refusals, refusals_in}
+use Rattle.gft_session.specs.Listeners.{Returns}
+use Rattle.gft_session.specs.Replies.{reply_of, unread_reply}
+use Rattle.gft_session.specs.Saying.{AnswersListen, IsPassive, IsStriped, Says, SaysAndReturns, folder_reply, is_root, mode_reply, pass_reply, protection_reply, refused_reply, structure_reply, type_reply}
+use Rattle.gft_session.specs.Settings.{Around, State, World, is_in}
+use Rattle.gft_session.specs.Table.{AnswersLine, Row, is_free}
+
+-- ---- which replies are of code 425
+
+abbrev pub Quiet : ReplyKind → Type 0
+Quiet kind = refusals (reply_of kind ∷ []) ≡ 0
+
+is_loud : ReplyKind → Bool
+is_loud kinds.CannotListen = true
+is_loud _ = false
+
+quiet_unread : (why : CommandError) → Quiet (kinds.Unread why)
+unfolding reply_of unread_reply
+quiet_unread unread.UnknownVerb = refl
+quiet_unread unread.MissingParameter = refl
+quiet_unread unread.BadParameter = refl
+quiet_unread unread.OutOfMemory = refl
+
+quiet : (kind : ReplyKind) → is_loud kind ≡ false → Quiet kind
+unfolding reply_of is_loud
+quiet kinds.CannotListen loud = absurd (cc loud)
+quiet (kinds.Unread why) loud = quiet_unread why
+quiet _ loud = refl
+
+quiet_pass : (login : Login) → Quiet (pass_reply login)
+unfolding is_loud
+quiet_pass logins.Named = quiet kinds.LoggedIn refl
+quiet_pass _ = quiet kinds.UserFirst refl
+
+quiet_if : (b : Bool) (x y : ReplyKind) → Quiet x → Quiet y → Quiet (if b then x else y)
+quiet_if true x y p q = p
+quiet_if false x y p q = q
+
+quiet_type : (letter : ℕ) → Quiet (type_reply letter)
+unfolding is_loud
+quiet_type letter = quiet_if (letter == 73) _ _ (quiet kinds.TypeImage refl) (quiet_if (letter == 65) _ _ (quiet kinds.TypeAscii refl) (quiet kinds.NoSuchType refl))
+
+quiet_mode : (letter : ℕ) → Quiet (mode_reply letter)
+unfolding is_loud
+quiet_mode letter = quiet_if (letter == 69) _ _ (quiet kinds.ModeExtended refl) (quiet_if (letter == 83) _ _ (quiet kinds.ModeStream refl) (quiet kinds.NoSuchMode refl))
+
+quiet_structure : (letter : ℕ) → Quiet (structure_reply letter)
+unfolding is_loud
+quiet_structure letter = quiet_if (letter == 70) _ _ (quiet kinds.StructureFile refl) (quiet kinds.NoSuchStructure refl)
+
+quiet_protection : (letter : ℕ) → Quiet (protection_reply letter)
+unfolding is_loud
+quiet_protection letter = quiet_if (letter == 78) _ _ (quiet kinds.NoProtection refl) (quiet kinds.OnlyNoProtection refl)
+
+quiet_folder : (path : List ℕ) → Quiet (folder_reply path)
+unfolding is_loud
+quiet_folder path = quiet_if (is_root path) _ _ (quiet kinds.FolderIsRoot refl) (quiet kinds.NoSuchFolder refl)
+
+at_most_if : (b : Bool) → (if b then 1 else 0) + 0 ≤ 1
+at_most_if true = omega arith
+at_most_if false = omega arith
+
+at_most_one : (reply : Reply) → refusals (reply ∷ []) ≤ 1
+at_most_one reply = at_most_if (reply.code == 425)
+
+-- ---- rows
+
+-- what is given back lets the count rise, or leaves it
+returned_rose : {L X : Type 0} (lane : L → LaneState) (a b : LinkState L X) (lanes : List L) → Returns lane a b lanes → RoseBy 0 a.faults b.faults
+returned_rose lane a b [] same = rw same (omega arith)
+returned_rose lane a b (first ∷ others) returns = omega (arith, returns.1.faults, returned_rose lane returns.0 b others returns.2)
+
+says_rose : {L X : Type 0} (kind : ReplyKind) (after : State L) (old : World L X) (replies : List Reply) (new : World L X) → Quiet kind → Says kind after old replies new → RoseBy (refusals replies) old.link.faults new.link.faults
+says_rose kind after old replies new quiet_kind row = rw (row.reply, quiet_kind, row.link) (omega arith)
+
+returns_rose : {L X : Type 0} (lane : L → LaneState) (kind : ReplyKind) (after : State L) (old : World L X) (replies : List Reply) (new : World L X) → Quiet kind → SaysAndReturns lane kind after old replies new → RoseBy (refusals replies) old.link.faults new.link.faults
+returns_rose lane kind after old replies new quiet_kind row = rw (row.reply, quiet_kind) (returned_rose lane old.link new.link _ row.returned)
+
+refused_rose : {L X : Type 0} (why : LinkError) (old new : LinkState L X) → NotHandedOut old new why → RoseBy (refusals (reply_of (refused_reply why) ∷ [])) old.faults new.faults
+unfolding is_loud
+refused_rose errors.Failed old new refused = omega (arith, at_most_one (reply_of kinds.CannotListen), refused.rose)
+refused_rose errors.OutOfMemory old new same = rw (quiet kinds.OutOfMemory refl, same) (omega arith)
+
+listen_rose : {L X : Type 0} (lane : L → LaneState) (stripes : ℕ) (IsNamed : List HostPort → ReplyKind → Type 0) (old : World L X) (replies : List Reply) (new : World L X) →
+    ((places : List HostPort) (kind : ReplyKind) → IsNamed places kind → Quiet kind) → AnswersListen lane stripes IsNamed old replies new → RoseBy (refusals replies) old.link.faults new.link.faults
+listen_rose lane stripes IsNamed old replies new named (inl refused) = rw refused.reply (refused_rose refused.why old.link new.link refused.same.refused)
+listen_rose lane stripes IsNamed old replies new named (inr row) =
+    let back = returned_rose lane row.listens.mid new.link _ row.listens.returned in
+    rw (row.reply, named row.places row.kind row.named) (omega (arith, row.listens.handed_out.faults, back))
+
+passive_quiet : (places : List HostPort) (kind : ReplyKind) → IsPassive places kind → Quiet kind
+unfolding is_loud
+passive_quiet places kind named = rw named.2 (quiet (kinds.Passive named.0) refl)
+
+striped_quiet : (places : List HostPort) (kind : ReplyKind) → IsStriped places kind → Quiet kind
+unfolding is_loud
+striped_quiet places kind named = rw named.2 (quiet (kinds.Striped named.0) refl)
+
+row_rose : {L X : Type 0} (around : Around L) (command : Command) (old : World L X) (replies : List Reply) (new : World L X) → Row around command old replies new → RoseBy (refusals replies) old.link.faults new.link.faults
+unfolding is_loud
+row_rose around (commands.User _) old replies new row = says_rose _ _ _ _ _ (quiet kinds.PasswordPlease refl) row
+row_rose around (commands.Pass _) old replies new row = says_rose _ _ _ _ _ (quiet_pass old.state.login) row
+row_rose around commands.Quit old replies new row = says_rose _ _ _ _ _ (quiet kinds.Goodbye refl) row
+row_rose around commands.Noop old replies new row = says_rose _ _ _ _ _ (quiet kinds.Done refl) row
+row_rose around commands.Feat old replies new row = says_rose _ _ _ _ _ (quiet kinds.Features refl) row
+row_rose around (commands.SetType letter) old replies new row = says_rose _ _ _ _ _ (quiet_type letter) row
+row_rose around (commands.SetMode letter) old replies new row = says_rose _ _ _ _ _ (quiet_mode letter) row
+row_rose around (commands.SetStru letter) old replies new row = says_rose _ _ _ _ _ (quiet_structure letter) row
+row_rose around (commands.Dcau letter) old replies new row = says_rose _ _ _ _ _ (quiet_protection letter) row
+row_rose around (commands.Sbuf _) old replies new row = says_rose _ _ _ _ _ (quiet kinds.BufferNoted refl) row
+row_rose around (commands.Allo _) old replies new row = says_rose _ _ _ _ _ (quiet kinds.AlloNotNeeded refl) row
+row_rose around (commands.Opts options) old replies new row = says_rose _ _ _ _ _ (quiet kinds.OptionsSet refl) row
+row_rose around commands.Pwd old replies new row = says_rose _ _ _ _ _ (quiet kinds.OnlyFolder refl) row
+row_rose around (commands.Cwd path) old replies new row = says_rose _ _ _ _ _ (quiet_folder path) row
+row_rose around commands.Pasv old replies new row = listen_rose around.lane 1 IsPassive old replies new passive_quiet row
+row_rose around commands.Spas old replies new row = listen_rose around.lane around.stripes IsStriped old replies new striped_quiet row
+row_rose around (commands.Port at) old replies new row = returns_rose around.lane _ _ _ _ _ (quiet (kinds.TargetsSet 1) refl) row
+row_rose around (commands.Spor places) old replies new row = returns_rose around.lane _ _ _ _ _ (quiet (kinds.TargetsSet (length places)) refl) row
+row_rose around (commands.Rest list) old replies new row = says_rose _ _ _ _ _ (quiet kinds.RestNoted refl) row
+row_rose around (commands.Stor _) old replies new row = says_rose _ _ _ _ _ (quiet kinds.NotBuilt refl) row
+row_rose around (commands.Esto _) old replies new row = says_rose _ _ _ _ _ (quiet kinds.NotBuilt refl) row
+row_rose around (commands.Retr _) old replies new row = says_rose _ _ _ _ _ (quiet kinds.NotBuilt refl) row
+row_rose around (commands.Eret _) old replies new row = says_rose _ _ _ _ _ (quiet kinds.NotBuilt refl) row
+row_rose around (commands.Size _) old replies new row = says_rose _ _ _ _ _ (quiet kinds.NotBuilt refl) row
+row_rose around (commands.Dele _) old replies new row = says_rose _ _ _ _ _ (quiet kinds.NotBuilt refl) row
+row_rose around commands.Abor old replies new row = says_rose _ _ _ _ _ (quiet kinds.NoTransfer refl) row
+
+by_test : (b : Bool) (P Q R : Type 0) → (P → R) → (Q → R) → MatchBool b P Q → R
+by_test true P Q R p q row = p row
+by_test false P Q R p q row = q row
+
+line_rose : {L X : Type 0} (around : Around L) (line : List ℕ) (old : World L X) (replies : List Reply) (new : World L X) → AnswersLine around line old replies new → RoseBy (refusals replies) old.link.faults new.link.faults
+unfolding is_loud
+line_rose around line old replies new (inl reads) =
+    by_test (is_free reads.command || is_in old.state.login) _ _ _
+    (λ row. row_rose around reads.command old replies new row) (λ first. says_rose _ _ _ _ _ (quiet kinds.LogInFirst refl) first) reads.answers
+line_rose around line old replies new (inr refuses) = says_rose _ _ _ _ _ (quiet_unread refuses.why) refuses.says
+
+-- the replies of code 425 are at most as many as the link's count rose by
+pub leads_rose : {L X : Type 0} (around : Around L) (start : World L X) (turns : List Turn) (now : World L X) → Leads around start turns now → RoseBy (refusals_in turns) start.link.faults now.link.faults
+leads_rose around start [] now same = rw same (omega arith)
+leads_rose around start (turn ∷ older) now leads =
+    omega (arith, leads_rose around start older leads.0 leads.1, line_rose around turn.line leads.0 turn.replies now leads.2)

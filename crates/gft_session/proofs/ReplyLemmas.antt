@@ -1,0 +1,100 @@
+-- The texts of replies have no LF, and room in a line.
+use Rattle.std.proofs.Common.{◌≡◌, ℕ, ◌*◌, ◌/◌, ◌%◌, ◌<◌, ◌≤◌, ◌^◌, Bool, true, false, not, ◌&&◌, eqb, List, [], ◌∷◌, ◌++◌, length, length-append, map, refl, ◌∙◌, lit<, arith}
+use Rattle.std.specs.Prelude.{decimal}
+use Rattle.std.specs.List.{AllByRecursion, AllZip, join_with_byte, list_all}
+use Rattle.std.proofs.lemmas.Bool.{lt-ltb, ltb-true}
+use Rattle.std.proofs.lemmas.Fmt.{length-decimal-le}
+use Rattle.std.proofs.lemmas.List.Folds.{list_all-append}
+use Rattle.std.proofs.lemmas.List.Sums.{list_all-from_AllPass}
+use Rattle.std.proofs.lemmas.List.Elements.{All-append, All-nil}
+use Rattle.gft_base.specs.Words.{Lacks, comma, line_feed}
+use Rattle.gft_text.specs.Words.{IsByte, IsHostPort, host_port_text, numbers_of}
+use Rattle.gft_text.specs.declared.host_port.HostPort.{HostPort}
+use Rattle.gft_text.proofs.Lemmas.{decimal_lacks, lacks_joined, literal_lacks}
+use Rattle.gft_reply.specs.declared.reply.Reply.{Reply}
+use Rattle.gft_reply.specs.declared.TheConstants.{LINE_COUNT_LIMIT}
+use Rattle.gft_reply.specs.Words.{FitsReply}
+use Rattle.gft_reply.proofs.Lemmas.{FitsReply-short, IsLineText}
+use Rattle.gft_session.specs.Replies.{is_line}
+
+-- ---- a line's test, in words
+
+not_false : (b : Bool) → b ≡ false → not b ≡ true
+not_false true is = cc is
+not_false false is = refl
+
+both : (a b : Bool) → a ≡ true → b ≡ true → (a && b) ≡ true
+both true b one other = other
+both false b one other = one
+
+both_ways : (a b : Bool) → (a && b) ≡ true → (a ≡ true) × (b ≡ true)
+both_ways true b one = (refl, one)
+both_ways false b one = absurd (cc one)
+
+-- a text without an LF, and with room
+pub line_from : (text : List ℕ) → Lacks line_feed text → length text < 1000 → is_line text ≡ true
+line_from text lacks short = both _ _ (list_all-from_AllPass (λ b. not (eqb b line_feed)) text (λ k d lt. not_false _ (lacks k d lt))) (lt-ltb (length text) 1000 short)
+
+line_text : (text : List ℕ) → is_line text ≡ true → IsLineText text
+line_text text test =
+    let halves = both_ways _ _ test in
+    (literal_lacks line_feed text halves.0, omega (arith, ltb-true (length text) 1000 halves.1))
+
+line_texts : (texts : List (List ℕ)) → list_all is_line texts ≡ true → AllByRecursion IsLineText texts
+line_texts [] test = tt
+line_texts (text ∷ texts) test = let halves = both_ways _ _ test in (line_text text halves.0, line_texts texts halves.1)
+
+-- a reply of such lines has a text
+pub fits : (reply : Reply) → 100 ≤ reply.code → reply.code ≤ 599 → 0 < length reply.lines → length reply.lines < LINE_COUNT_LIMIT → list_all is_line reply.lines ≡ true → FitsReply reply
+fits reply least most some few test = FitsReply-short reply least most some few (line_texts reply.lines test)
+
+pub one_more_line : (lines : List (List ℕ)) (text : List ℕ) → list_all is_line lines ≡ true → is_line text ≡ true → list_all is_line (lines ++ text ∷ []) ≡ true
+one_more_line lines text all one = list_all-append is_line lines (text ∷ []) ∙ both _ _ all (both _ _ one refl)
+
+-- ---- numbers and addresses
+
+decimal-short : (n : ℕ) → n < 2 ^ 64 → length (decimal n) ≤ 20
+decimal-short n below = length-decimal-le 20 n (omega arith) (omega arith) below
+
+-- a number, and a literal text behind it
+pub number_line : (n : ℕ) (text : List ℕ) → n < 2 ^ 64 → list_all (λ b. not (eqb b line_feed)) text ≡ true → length text ≤ 100 → is_line (decimal n ++ text) ≡ true
+number_line n text below test short =
+    line_from (decimal n ++ text) (All-append (λ b. eqb b line_feed ≡ false) (decimal n) text (decimal_lacks line_feed n (lit< tt) below) (literal_lacks line_feed text test))
+    (omega (arith, length-append (decimal n) text, decimal-short n below, short))
+
+each_byte : (parts : List (List ℕ)) (ns : List ℕ) → AllZip IsByte parts ns → AllByRecursion (λ n. n < 256) ns
+each_byte [] [] all = tt
+each_byte [] (n ∷ ns) all = absurd all
+each_byte (part ∷ parts) [] all = absurd all
+each_byte (part ∷ parts) (n ∷ ns) all = (all.0.fits, each_byte parts ns all.1)
+
+joined-lacks : (ns : List ℕ) → AllByRecursion (λ n. n < 256) ns → Lacks line_feed (join_with_byte comma (map decimal ns))
+joined-lacks [] all = All-nil (λ b. eqb b line_feed ≡ false)
+joined-lacks (n ∷ []) all = decimal_lacks line_feed n (lit< tt) (omega (arith, all.0))
+joined-lacks (n ∷ m ∷ ns) all = lacks_joined line_feed comma (decimal n) (join_with_byte comma (map decimal (m ∷ ns))) refl (decimal_lacks line_feed n (lit< tt) (omega (arith, all.0))) (joined-lacks (m ∷ ns) all.1)
+
+joined-short : (ns : List ℕ) → AllByRecursion (λ n. n < 256) ns → length (join_with_byte comma (map decimal ns)) ≤ 21 * length ns
+joined-short [] all = omega arith
+joined-short (n ∷ []) all = omega (arith, decimal-short n (omega (arith, all.0)))
+joined-short (n ∷ m ∷ ns) all =
+    omega (arith, decimal-short n (omega (arith, all.0)), joined-short (m ∷ ns) all.1, length-append (decimal n) (comma ∷ join_with_byte comma (map decimal (m ∷ ns))))
+
+address-lacks : (at : HostPort) (text : List ℕ) → IsHostPort text at → Lacks line_feed (host_port_text at)
+address-lacks at text is = joined-lacks (numbers_of at) (each_byte _ _ is.numbers)
+
+address-short : (at : HostPort) (text : List ℕ) → IsHostPort text at → length (host_port_text at) ≤ 126
+address-short at text is =
+    omega (arith, joined-short (numbers_of at) (each_byte _ _ is.numbers), length-append at.host (at.port / 256 ∷ at.port % 256 ∷ []), is.host)
+
+-- an address is a line
+pub address_line : (at : HostPort) (text : List ℕ) → IsHostPort text at → is_line (host_port_text at) ≡ true
+address_line at text is = line_from _ (address-lacks at text is) (omega (arith, address-short at text is))
+
+-- and so it is between literal texts
+pub address_between : (at : HostPort) (text front behind : List ℕ) → IsHostPort text at → list_all (λ b. not (eqb b line_feed)) front ≡ true → list_all (λ b. not (eqb b line_feed)) behind ≡ true →
+    length front ≤ 100 → length behind ≤ 100 → is_line (front ++ host_port_text at ++ behind) ≡ true
+address_between at text front behind is front_test behind_test front_short behind_short =
+    let P : ℕ → Type 0 = λ b. eqb b line_feed ≡ false in
+    line_from (front ++ host_port_text at ++ behind)
+    (All-append P (front ++ host_port_text at) behind (All-append P front (host_port_text at) (literal_lacks line_feed front front_test) (address-lacks at text is)) (literal_lacks line_feed behind behind_test))
+    (omega (arith, length-append (front ++ host_port_text at) behind, length-append front (host_port_text at), address-short at text is, front_short, behind_short))

@@ -1,0 +1,17 @@
+use Rattle.std.proofs.Common.{◌≡◌}
+use Rattle.gft_session.specs.Conversation.{SoFar}
+use Rattle.gft_session.specs.Listeners.{HasHandedOut, KeepsCount}
+use Rattle.gft_session.specs.Settings.{world}
+use Rattle.gft_session.proofs.session.converse.Given as goal
+
+abbrev pub invariant-lines : goal.invariant-lines
+invariant-lines g l = record {
+  so_far : SoFar (record { stripes = l.config.stripes; lane = g.K.In.Lane.state }) l.config.idle
+      (world l.fn.settings (g.K.Link.state l.fn.link)) (world l.settings (g.K.Link.state l.link))
+      (g.C.Control.state l.fn.control) (g.C.Control.state l.control) l.lines (g.W.Sink.written l.fn.out) (g.W.Sink.written l.out);
+  is_open : g.W.Sink.is_open l.out;
+  ours : KeepsCount (world l.fn.settings (g.K.Link.state l.fn.link)) (world l.settings (g.K.Link.state l.link));
+  room : HasHandedOut (world l.settings (g.K.Link.state l.link));
+  heard : (g.C.Control.state l.control).faults ≡ (g.C.Control.state l.fn.control).faults;
+  put : g.W.Sink.faults l.out ≡ g.W.Sink.faults l.fn.out;
+}

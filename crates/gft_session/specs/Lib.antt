@@ -1,0 +1,9 @@
+pub mod Replies
+pub mod Settings
+pub mod Listeners
+pub mod Saying
+pub mod Table
+pub mod Hearing
+pub mod Steps
+pub mod Conversation
+pub mod Words

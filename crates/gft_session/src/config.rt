@@ -1,0 +1,8 @@
+/// The bounds of a session.
+#[derive(Clone, Copy, Debug)]
+pub struct Config {
+    /// On how many stripes SPAS listens, from 1 to 16.
+    pub stripes: u16,
+    /// So many silences of the control in a row end the session, at least 1.
+    pub idle: u32,
+}

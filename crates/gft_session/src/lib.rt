@@ -1,0 +1,27 @@
+//! The control conversation of a GridFTP server (RFC 959; RFC 2389; GFD.20): a greeting, and for each line
+//! that the peer sends the replies of one table.
+//!
+//! Begin with [`run_session`], and with `specs/Table.antt`, which is the table; `specs/Replies.antt` has the
+//! text of every reply, `specs/Conversation.antt` says what a whole session is. A line goes from bytes to a
+//! command, to a step that changes the settings and names a reply, to that reply's bytes.
+//!
+//! Files aren't built in yet: SIZE, DELE and the lines that begin a transfer are answered `504 Not built.`
+//! Nothing here reads a socket; listening is the link's.
+#![tactic(auto)]
+
+mod answering;
+mod choices;
+mod config;
+mod hearing;
+mod ports;
+mod reply_kind;
+mod session;
+mod session_end;
+mod settings;
+mod stepping;
+#[cfg(test)]
+mod tests;
+
+pub use config::Config;
+pub use session::run_session;
+pub use session_end::SessionEnd;

@@ -1,0 +1,205 @@
+//! Every reply of a session, and its text. No other file has one.
+
+ghost use Rattle.std.specs.Prelude.{◌≡◌, ◌≤◌, ◌<◌, ◌++◌, ◌∷◌, [], length, IfOk, IsTrue, codes};
+ghost use Rattle.std.specs.Prelude.{decimal, map};
+ghost use Rattle.std.specs.List.{list_all};
+ghost use Rattle.gft_text.specs.Words.{host_port_text};
+ghost use Rattle.gft_reply.specs.Words.{FitsReply, reply_text};
+ghost use Rattle.gft_session.specs.Replies.{HasText, features, is_line, line, lines_from, reply_of};
+ghost use Rattle.gft_session.specs.Replies.{unread_reply};
+
+use gft_base::OutOfMemory;
+use gft_command::CommandError;
+use gft_opts::MAX_TARGETS;
+use gft_reply::{LINE_COUNT_LIMIT, Reply, ReplyLines};
+use gft_text::{HostPort, write_host_port};
+use std::alloc::Global;
+
+/// What a session replies (RFC 959, section 4.2; RFC 2389, FEAT; GFD.20, SPAS).
+#[derive(Drop)]
+pub(crate) enum ReplyKind {
+    Greeting,
+    /// The line is no command.
+    Unread(CommandError),
+    PasswordPlease,
+    LoggedIn,
+    UserFirst,
+    Goodbye,
+    Done,
+    Features,
+    LogInFirst,
+    TypeImage,
+    TypeAscii,
+    NoSuchType,
+    ModeExtended,
+    ModeStream,
+    NoSuchMode,
+    StructureFile,
+    NoSuchStructure,
+    NoProtection,
+    OnlyNoProtection,
+    BufferNoted,
+    AlloNotNeeded,
+    OptionsSet,
+    OnlyFolder,
+    FolderIsRoot,
+    NoSuchFolder,
+    CannotListen,
+    /// Where the one lane listens.
+    Passive(HostPort),
+    /// Where the lanes listen, in order.
+    Striped(Vec<HostPort>),
+    TargetsSet(usize),
+    RestNoted,
+    NotBuilt,
+    NoTransfer,
+    OutOfMemory,
+    Idle,
+    TooLong,
+}
+
+impl ReplyKind {
+    /// The reply's bytes.
+    pub(crate) fn text(&self, alloc: Global) -> Result<Vec<u8>, OutOfMemory>
+        requires { HasText self.now }
+        ensures { IfOk result (λ text. text.items ≡ reply_text (reply_of self.now)) }
+    {
+        let reply = self.reply(alloc)?;
+        reply.write(alloc)
+    }
+
+    #[tactic(auto, unfolding(crate::specs::Replies::reply_of))]
+    fn reply(&self, alloc: Global) -> Result<Reply, OutOfMemory>
+        requires { HasText self.now }
+        ensures reply { IfOk result (λ reply. reply ≡ reply_of self.now) }
+        ensures fits { IfOk result FitsReply }
+    {
+        match self {
+            ReplyKind::Greeting => one_line(alloc, 220, b"GridFTP server ready."),
+            ReplyKind::Unread(why) => unread(alloc, *why),
+            ReplyKind::PasswordPlease => one_line(alloc, 331, b"Password please."),
+            ReplyKind::LoggedIn => one_line(alloc, 230, b"Logged in."),
+            ReplyKind::UserFirst => one_line(alloc, 503, b"USER first."),
+            ReplyKind::Goodbye => one_line(alloc, 221, b"Goodbye."),
+            ReplyKind::Done => one_line(alloc, 200, b"Done."),
+            ReplyKind::Features => feature_lines(alloc),
+            ReplyKind::LogInFirst => one_line(alloc, 530, b"Log in first."),
+            ReplyKind::TypeImage => one_line(alloc, 200, b"Type I."),
+            ReplyKind::TypeAscii => one_line(alloc, 200, b"Type A."),
+            ReplyKind::NoSuchType => one_line(alloc, 504, b"Type not supported."),
+            ReplyKind::ModeExtended => one_line(alloc, 200, b"Mode E."),
+            ReplyKind::ModeStream => one_line(alloc, 200, b"Mode S."),
+            ReplyKind::NoSuchMode => one_line(alloc, 504, b"Mode not supported."),
+            ReplyKind::StructureFile => one_line(alloc, 200, b"Structure F."),
+            ReplyKind::NoSuchStructure => one_line(alloc, 504, b"Structure not supported."),
+            ReplyKind::NoProtection => one_line(alloc, 200, b"DCAU N."),
+            ReplyKind::OnlyNoProtection => one_line(alloc, 504, b"Only DCAU N."),
+            ReplyKind::BufferNoted => one_line(alloc, 200, b"Buffer size noted."),
+            ReplyKind::AlloNotNeeded => one_line(alloc, 202, b"ALLO is not needed."),
+            ReplyKind::OptionsSet => one_line(alloc, 200, b"Options set."),
+            ReplyKind::OnlyFolder => one_line(alloc, 257, b"\"/\" is the only folder."),
+            ReplyKind::FolderIsRoot => one_line(alloc, 250, b"Folder is /."),
+            ReplyKind::NoSuchFolder => one_line(alloc, 550, b"No such folder."),
+            ReplyKind::CannotListen => one_line(alloc, 425, b"Cannot listen."),
+            ReplyKind::Passive(at) => passive(alloc, at),
+            ReplyKind::Striped(places) => striped(alloc, places),
+            ReplyKind::TargetsSet(count) => targets_set(alloc, *count),
+            ReplyKind::RestNoted => one_line(alloc, 350, b"Restart list noted."),
+            ReplyKind::NotBuilt => one_line(alloc, 504, b"Not built."),
+            ReplyKind::NoTransfer => one_line(alloc, 225, b"No transfer in progress."),
+            ReplyKind::OutOfMemory => one_line(alloc, 455, b"Out of memory."),
+            ReplyKind::Idle => one_line(alloc, 421, b"Idle, closing."),
+            ReplyKind::TooLong => one_line(alloc, 500, b"Line too long."),
+        }
+    }
+}
+
+#[tactic(auto, unfolding(crate::specs::Replies::unread_reply))]
+fn unread(alloc: Global, why: CommandError) -> Result<Reply, OutOfMemory>
+    ensures reply { IfOk result (λ reply. reply ≡ unread_reply why) }
+    ensures fits { IfOk result FitsReply }
+{
+    match why {
+        CommandError::UnknownVerb => one_line(alloc, 500, b"Unknown command."),
+        CommandError::MissingParameter => one_line(alloc, 501, b"Parameter missing."),
+        CommandError::BadParameter => one_line(alloc, 501, b"Bad parameter."),
+        CommandError::OutOfMemory => one_line(alloc, 455, b"Out of memory."),
+    }
+}
+
+fn feature_lines(alloc: Global) -> Result<Reply, OutOfMemory>
+    ensures reply { IfOk result (λ reply.
+        reply ≡ lines_from 211 (codes "Extensions supported:") features (codes "End")) }
+    ensures fits { IfOk result FitsReply }
+{
+    let mut lines = ReplyLines::new(alloc);
+    lines.push(b"Extensions supported:")?;
+    lines.push(b"DCAU")?;
+    lines.push(b"ERET")?;
+    lines.push(b"ESTO")?;
+    lines.push(b"PARALLEL")?;
+    lines.push(b"SBUF")?;
+    lines.push(b"SIZE")?;
+    lines.push(b"SPAS")?;
+    lines.push(b"SPOR")?;
+    lines.push(b"End")?;
+    Ok(of_lines(211, lines))
+}
+
+fn passive(alloc: Global, at: &HostPort) -> Result<Reply, OutOfMemory>
+    ensures reply { IfOk result (λ reply.
+        reply ≡ line 227 (codes "Entering Passive Mode (" ++ host_port_text at.now ++ codes ")")) }
+    ensures fits { IfOk result FitsReply }
+{
+    let place = write_host_port(alloc, at)?;
+    let mut text = Vec::from_slice(alloc, b"Entering Passive Mode (")?;
+    text.extend_from_slice(&place)?;
+    text.extend_from_slice(b")")?;
+    one_line(alloc, 227, &text)
+}
+
+fn striped(alloc: Global, places: &[HostPort]) -> Result<Reply, OutOfMemory>
+    requires { length places.now ≤ MAX_TARGETS }
+    ensures reply { IfOk result (λ reply. reply ≡ lines_from 229 (codes "Entering Striped Passive Mode.")
+        (map host_port_text places.now) (codes "End")) }
+    ensures fits { IfOk result FitsReply }
+{
+    let mut lines = ReplyLines::new(alloc);
+    lines.push(b"Entering Striped Passive Mode.")?;
+    'places: for at in places {
+        lines.push(&write_host_port(alloc, at)?)?;
+    }
+    lines.push(b"End")?;
+    Ok(of_lines(229, lines))
+}
+
+fn targets_set(alloc: Global, count: usize) -> Result<Reply, OutOfMemory>
+    ensures reply { IfOk result (λ reply. reply ≡ line 200 (decimal count ++ codes " targets set.")) }
+    ensures fits { IfOk result FitsReply }
+{
+    let text = format!(in alloc; "{count} targets set.")?;
+    one_line(alloc, 200, text.as_bytes())
+}
+
+/// A reply of one line.
+fn one_line(alloc: Global, code: u16, text: &[u8]) -> Result<Reply, OutOfMemory>
+    requires code { (100 ≤ code) × (code ≤ 599) }
+    requires text { IsTrue (is_line text.now) }
+    ensures reply { IfOk result (λ reply. reply ≡ line code text.now) }
+    ensures fits { IfOk result FitsReply }
+{
+    let mut lines = ReplyLines::new(alloc);
+    lines.push(text)?;
+    Ok(of_lines(code, lines))
+}
+
+/// A reply of lines that have room. It has a text.
+fn of_lines(code: u16, lines: ReplyLines) -> Reply
+    requires code { (100 ≤ code) × (code ≤ 599) }
+    requires count { (0 < length lines) × (length lines < LINE_COUNT_LIMIT) }
+    requires lines { IsTrue (list_all is_line lines) }
+    ensures reply { result ≡ record { code = code; lines = lines } }
+    ensures fits { FitsReply result }
+{
+    Reply { code, lines }
+}
