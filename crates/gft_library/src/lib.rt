@@ -1,0 +1,21 @@
+//! The files of a server, each under its name with its Book, round a shelf; and the answers that they give.
+//!
+//! Begin with [`Answer`], which is made here alone, and [`Tally`], which keeps those that a session gave.
+#![tactic(auto)]
+
+mod answer;
+mod error;
+mod holding;
+mod list;
+mod seeking;
+mod tally;
+
+pub use answer::{Answer, Word};
+pub use error::LibraryError;
+pub use tally::{MemoryTally, NoTally, Tally};
+
+/// The most names that a library keeps at once.
+pub const MAX_NAMES: usize = 65_536;
+
+// The definitions cite the name: its number is pinned here.
+const _: () = prove!(MAX_NAMES == 65_536);
