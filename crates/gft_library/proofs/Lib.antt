@@ -1,1 +1,4 @@
 mod ListLemmas
+mod NamesLemmas
+mod SourceLemmas
+mod StepLemmas

@@ -2,7 +2,7 @@
 use Rattle.std.proofs.Common.{◌≡◌, ◌≢◌, ℕ, zero, suc, ◌+◌, ◌<◌, ◌≤◌, Bool, true, false, cond, not, List, [], ◌∷◌, ◌++◌, length, Some, None, refl, sym, ap, ◌∙◌, subst, arith, set, get_or, ltb, inl, inr}
 use Rattle.std.specs.Prelude.{MatchOption, Result, Ok, Err, if◌then◌else◌, slice_get, nat_eq, Option, ◌&&◌}
 use Rattle.std.specs.Result.{is_ok}
-use Rattle.std.specs.List.{position, position_or_len, remove, find}
+use Rattle.std.specs.List.{position, position_or_len, remove}
 use Rattle.std.specs.Cmp.Lexicographic.{pointwise}
 use Rattle.std.proofs.lemmas.Bool.{cases_lt, eqb-true, eq-eqb, lt-ltb}
 use Rattle.std.proofs.lemmas.Option.{same_Some}

@@ -1,7 +1,7 @@
 -- What a library answers: which call can answer which word, and the list of the answers that a tally took.
 use Rattle.std.specs.Prelude.{◌≡◌, ◌⊎◌, ℕ, List, ◌∷◌, Option, None, Some, if◌then◌else◌}
 use Rattle.gft_book.specs.declared.usage.How.{How}
-use Rattle.gft_book.specs.declared.usage.How.TheVariants.{Fresh, Resume, Esto}
+use Rattle.gft_book.specs.declared.usage.How.TheVariants.{Resume, Esto}
 use Rattle.gft_book.specs.Words.{SettledFile}
 use Rattle.gft_library.specs.declared.answer.Word.{Word}
 use Rattle.gft_library.specs.declared.answer.Word.TheVariants as word

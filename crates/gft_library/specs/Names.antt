@@ -25,11 +25,14 @@ abbrev pub ShelfIsFrom : {D : Type 0} → (D → DriveState) → (List ℕ → O
 ShelfIsFrom state sent shelf =
     IfSome shelf.drives (λ at. (name : List ℕ) → IfSome (at name) (λ drive. DriveIsFrom sent (state drive)))
 
+abbrev pub IsOwnDrive : (List ℕ → Option Sent) → List ℕ → DriveState → Type 0
+IsOwnDrive sent name drive = (drive.label ≡ name) × DriveIsFrom sent drive
+
 -- what is kept under a name has it for its label; a drive is from the source, as each Book is
 abbrev pub IsOwn : {D O : Type 0} → (D → DriveState) → (List ℕ → Option Sent) → List ℕ → Holding D O → Type 0
 IsOwn state sent name (AtHand book) = (keep_of state book.keep).drive.label ≡ name
 IsOwn state sent name HandedOut = Unit {0}
-IsOwn state sent name (Unread drive) = ((state drive).label ≡ name) × DriveIsFrom sent (state drive)
+IsOwn state sent name (Unread drive) = IsOwnDrive sent name (state drive)
 
 -- what is true of all names
 pub record AreNames {D O S : Type 0} (drive_state : D → DriveState) (shelf_state : S → ShelfState D)

@@ -1,17 +1,20 @@
 //! The files of a server, each under its name with its Book, round a shelf; and the answers that they give.
 //!
-//! Begin with [`Answer`], which is made here alone, and [`Tally`], which keeps those that a session gave.
+//! Begin with [`Names`]. Each [`Answer`] is made here alone, and a [`Tally`] keeps those that a session gave.
 #![tactic(auto)]
 
 mod answer;
 mod error;
 mod holding;
 mod list;
+mod names;
+mod opening;
 mod seeking;
 mod tally;
 
 pub use answer::{Answer, Word};
 pub use error::LibraryError;
+pub use names::{Names, Storing};
 pub use tally::{MemoryTally, NoTally, Tally};
 
 /// The most names that a library keeps at once.

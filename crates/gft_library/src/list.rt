@@ -104,6 +104,20 @@ impl<T: Drop> NameList<T> {
         }
     }
 
+    /// Keeps this under a name under which something is kept.
+    pub(crate) fn set(&mut self, name: &Name, holding: T)
+        ensures { Puts self.old self.new name.now holding }
+    {
+        let _was = self.put(name, holding);
+    }
+
+    /// Drops the name with what is kept under it.
+    pub(crate) fn forget(&mut self, name: &Name)
+        ensures { LetsGo self.old self.new name.now }
+    {
+        let _gone = self.remove(name);
+    }
+
     // The place of the name.
     fn place_of(&self, name: &Name) -> Option<usize>
         ensures { MatchOption result (kept_under self.now name.now ≡ None) (StandsAt self.now name.now) }
