@@ -11,7 +11,9 @@ use Rattle.gft_library.specs.declared.list.KeptName.{KeptName}
 use Rattle.gft_library.specs.Kept.{Puts, kept_under}
 use Rattle.gft_library.specs.Names.{NamesSeen}
 use Rattle.gft_library.specs.Finding.{Asking, Comes, HasDrive, IsBarred, IsKeptFrom, Seeks, asking}
-use Rattle.gft_library.specs.Steps.{Opens, OpensNot, Takes}
+use Rattle.std.specs.Prelude.{MatchResult, Result, Ok, Err}
+use Rattle.gft_library.specs.Calls.{ByBook}
+use Rattle.gft_library.specs.Steps.{Brings, Opens, OpensNot, Takes}
 use Rattle.gft_library.proofs.NamesLemmas.{put_nowhere, put_there, same_length}
 
 module _ {D O S : Type 0} (drive_state : D → DriveState) (shelf_state : S → ShelfState D) (name : List ℕ) where
@@ -89,3 +91,20 @@ module _ {D O S : Type 0} (call : Asking D O S) (absent : Absent) where
       other drive e = cc
   opened now HandedOut book takes opens = absurd opens
   opened now (Unread drive) book takes opens = inr (drive, drive_taken now drive takes, opens)
+
+  -- a Book that was taken, and put back after a call
+  pub by_book : (does : Seen D → Seen D → Type 0) (mid new : NamesSeen D O S) (book now : Seen D) → Brings call absent mid book → Puts mid.kept new.kept call.name (AtHand now) → new.shelf ≡ mid.shelf
+      → does book now → ByBook call absent new does
+  by_book does mid new book now brings puts shelf done = (
+    book,
+    now,
+    subst (λ (s : S). Comes call absent s book) (sym shelf) brings.comes,
+    put_there call.name mid.kept new.kept HandedOut (AtHand now) puts brings.stands,
+    done,
+  )
+
+-- what holds of an answer, from what else does
+pub of_answer : {T E : Type 0} (P P' : T → Type 0) (Q Q' : E → Type 0) (answer : Result T E) → ((value : T) → P value → P' value) → ((why : E) → Q why → Q' why) → MatchResult answer P Q
+    → MatchResult answer P' Q'
+of_answer P P' Q Q' (Ok value) ok err holds = ok value holds
+of_answer P P' Q Q' (Err why) ok err holds = err why holds

@@ -4,12 +4,14 @@
 #![tactic(auto)]
 
 mod answer;
+mod book_calls;
 mod error;
 mod holding;
 mod list;
 mod names;
 mod opening;
 mod seeking;
+mod serving;
 mod tally;
 
 pub use answer::{Answer, Word};
