@@ -1,7 +1,11 @@
-ghost use Rattle.std.specs.Prelude.{◌≡◌, ◌≤◌, [], IfErr, MatchResult};
+ghost use Rattle.std.specs.Prelude.{◌≡◌, ◌≤◌, [], IfErr, IfOk, IfSome, MatchResult, option_map, Some};
 ghost use Rattle.gft_drive.specs.Words.{sent_by};
-ghost use Rattle.gft_library.specs.Answers.{IsFor, RefusedWith};
-ghost use Rattle.gft_library.specs.Calls.{ByBook, EndsReader, IsNotRead, LendsFile, SizesName, unless_there};
+ghost use Rattle.gft_keep.specs.Words.{keep_of};
+ghost use Rattle.gft_book.specs.declared.transfer.Stage.TheVariants.{Rest};
+ghost use Rattle.gft_book.specs.Words.{NamesSome};
+ghost use Rattle.gft_library.specs.Answers.{IsFor, RefusedWith, word_of_file};
+ghost use Rattle.gft_library.specs.Calls.{ByBook, EndsReader, IsNotRead, IsNotStored, IsOfLastTransfer, LendsFile};
+ghost use Rattle.gft_library.specs.Calls.{SizesName, StoresName, TakesBookBack, unless_there};
 ghost use Rattle.gft_library.specs.Finding.{asking};
 ghost use Rattle.gft_library.specs.Kept.{OnlyUnder};
 ghost use Rattle.gft_library.specs.Names.{ShelfIsFrom};
@@ -9,7 +13,7 @@ ghost use Rattle.gft_library.specs.Names.{ShelfIsFrom};
 use crate::answer::{Answer, Word};
 use crate::holding::Holding;
 use crate::list::NameList;
-use gft_book::{Book, Reading};
+use gft_book::{Book, Finished, How, Reading};
 use gft_drive::{Drive, Origin};
 use gft_outside::Shelf;
 use gft_pass::Pass;
@@ -80,6 +84,60 @@ impl<S: Shelf + Drop, O: Origin> Names<S, O> {
             Ok(len) => Answer::new(copy, Word::Length(len)),
             Err(why) => Answer::new(copy, Word::No(why)),
         }
+    }
+
+    /// Hands the name's Book out for a transfer of 1 to 16 lanes, which begins on it. A name that is nowhere
+    /// is made; but a restart is refused then, with `NotInJournal` and its list's first range. The Book
+    /// refuses as its `begin_store` says.
+    pub fn store(
+        &mut self,
+        name: &Name,
+        how: How,
+        lanes: u16,
+    ) -> Result<Storing<S::D, O>, Answer<S>>
+        requires lanes { (1 ≤ lanes) × (lanes ≤ 16) }
+        requires list { NamesSome how }
+        ensures label { IfOk result (λ storing. (keep_of S.D.state storing.book.keep).drive.label ≡ name.now) }
+        ensures named { IfErr result (IsFor name.now) }
+        ensures only { OnlyUnder self.old.kept self.new.kept name.now }
+        ensures stores { MatchResult result
+            (λ storing. StoresName (asking S.D.state S.state self.old name.now) how lanes self.new
+            storing.passes.items storing.book)
+            (λ answer. RefusedWith answer.word
+            (IsNotStored (asking S.D.state S.state self.old name.now) how self.new)) }
+    {
+        let Ok(copy) = name.copy() else {
+            return Err(Answer::out_of_memory());
+        };
+        match self.begin(name, how, lanes) {
+            Ok(storing) => Ok(storing),
+            Err(why) => Err(Answer::new(copy, Word::No(why))),
+        }
+    }
+
+    /// Takes a Book back, at rest; if none is handed out under the name, it is dropped. Answers what was
+    /// finished, if anything was: `Stored`, or `Part` for an ESTO. It takes no memory.
+    pub fn done_storing(
+        &mut self,
+        name: Name,
+        book: Book<S::D, O>,
+        done: Option<Finished>,
+    ) -> Option<Answer<S>>
+        requires label { (keep_of S.D.state book.keep).drive.label ≡ name }
+        requires rest { book.stage ≡ Rest }
+        requires of_it { IfSome done (IsOfLastTransfer book.last) }
+        ensures answer { result ≡ option_map (λ file. record { name = Some name; word = word_of_file file }) done }
+        ensures only { OnlyUnder self.old.kept self.new.kept name }
+        ensures back { TakesBookBack (asking S.D.state S.state self.old name) self.new book }
+    {
+        self.take_back(&name, book);
+        let file = done?;
+        let word = if file.is_whole() {
+            Word::Stored(file.len())
+        } else {
+            Word::Part(file.len())
+        };
+        Some(Answer::new(name, word))
     }
 
     /// Lends 1 to 16 drives of the name's file to a reader. The Book refuses as its `begin_read` says, and a

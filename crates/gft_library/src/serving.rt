@@ -1,16 +1,19 @@
-ghost use Rattle.std.specs.Prelude.{◌≤◌, MatchResult};
+ghost use Rattle.std.specs.Prelude.{◌≡◌, ◌≤◌, IfOk, MatchResult};
 ghost use Rattle.gft_drive.specs.Words.{sent_by};
-ghost use Rattle.gft_library.specs.Calls.{ByBook, EndsReader, IsNotRead, LendsFile, SizesName, unless_there};
+ghost use Rattle.gft_keep.specs.Words.{keep_of};
+ghost use Rattle.gft_book.specs.Words.{NamesSome};
+ghost use Rattle.gft_library.specs.Calls.{ByBook, EndsReader, IsNotRead, IsNotStored, LendsFile, SizesName};
+ghost use Rattle.gft_library.specs.Calls.{StoresName, TakesBookBack, absent_for, unless_there};
 ghost use Rattle.gft_library.specs.Finding.{asking};
 ghost use Rattle.gft_library.specs.Kept.{OnlyUnder};
 
 use crate::answer::Word;
-use crate::book_calls::{lend_of, length_of};
+use crate::book_calls::{begin_on, lend_of, length_of};
 use crate::error::LibraryError;
 use crate::holding::{Holding, end_read};
-use crate::names::Names;
+use crate::names::{Names, Storing};
 use crate::seeking::Absent;
-use gft_book::Reading;
+use gft_book::{Book, How, Reading};
 use gft_drive::{Drive, Origin};
 use gft_outside::Shelf;
 use gft_text::Name;
@@ -52,6 +55,46 @@ impl<S: Shelf + Drop, O: Origin> Names<S, O> {
         answer
     }
 
+    /// Hands the name's Book out with a transfer that begins on it.
+    pub(crate) fn begin(
+        &mut self,
+        name: &Name,
+        how: How,
+        lanes: u16,
+    ) -> Result<Storing<S::D, O>, LibraryError>
+        requires lanes { (1 ≤ lanes) × (lanes ≤ 16) }
+        requires list { NamesSome how }
+        ensures label { IfOk result (λ storing. (keep_of S.D.state storing.book.keep).drive.label ≡ name.now) }
+        ensures only { OnlyUnder self.old.kept self.new.kept name.now }
+        ensures stores { MatchResult result
+            (λ storing. StoresName (asking S.D.state S.state self.old name.now) how lanes self.new
+            storing.passes.items storing.book)
+            (IsNotStored (asking S.D.state S.state self.old name.now) how self.new) }
+    {
+        let mut book = match self.bring(name, absent_for(&how)) {
+            Ok(book) => book,
+            Err(why) => return Err(why),
+        };
+        match begin_on(&mut book, how, lanes) {
+            Ok(passes) => Ok(Storing { book, passes }),
+            Err(why) => {
+                self.keep(name, Holding::AtHand(book));
+                Err(why)
+            }
+        }
+    }
+
+    /// Puts the name's Book back, if it is handed out.
+    pub(crate) fn take_back(&mut self, name: &Name, book: Book<S::D, O>)
+        requires label { (keep_of S.D.state book.keep).drive.label ≡ name.now }
+        ensures only { OnlyUnder self.old.kept self.new.kept name.now }
+        ensures back { TakesBookBack (asking S.D.state S.state self.old name.now) self.new book }
+    {
+        if let Some(Holding::HandedOut) = self.kept.get(name) {
+            self.keep(name, Holding::AtHand(book));
+        }
+    }
+
     /// A reader has ended, if the name's Book is at hand.
     pub(crate) fn end_read(&mut self, name: &Name)
         ensures only { OnlyUnder self.old.kept self.new.kept name.now }
@@ -60,5 +103,18 @@ impl<S: Shelf + Drop, O: Origin> Names<S, O> {
         if let Some(holding) = self.kept.put(name, Holding::HandedOut) {
             self.keep(name, end_read(holding));
         }
+    }
+}
+
+/// A restart needs its first range.
+fn absent_for(how: &How) -> Absent
+    ensures { result ≡ absent_for how.now }
+{
+    match how {
+        How::Fresh | How::Esto => Absent::Make,
+        How::Resume(list) => match list.nth(0) {
+            Some(missing) => Absent::Refuse(LibraryError::NotInJournal { missing }),
+            None => Absent::Refuse(LibraryError::NoSuch),
+        },
     }
 }
