@@ -8,8 +8,8 @@ use Rattle.gft_library.specs.declared.holding.Holding.TheVariants.{AtHand, Hande
 use Rattle.gft_library.specs.declared.error.LibraryError.{LibraryError}
 use Rattle.gft_library.specs.declared.error.LibraryError.TheVariants as error
 use Rattle.gft_library.specs.declared.seeking.Absent.{Absent}
-use Rattle.gft_library.specs.Finding.{Asking, Comes, IsNowhere, IsOpenedOn, NotOpenedOn, Seeks}
-use Rattle.gft_library.specs.Calls.{MayGo}
+use Rattle.gft_library.specs.Finding.{Asking, Comes, IsBarred, IsNowhere, IsOpenedOn, NotOpenedOn, Seeks}
+use Rattle.gft_library.specs.Calls.{IsInUse, MayGo, unless_there}
 use Rattle.gft_library.specs.Kept.{kept_under}
 use Rattle.gft_library.specs.Names.{DriveIsFrom, IsOwn, NamesSeen}
 
@@ -65,3 +65,6 @@ pub record Brings {D O S : Type 0} (call : Asking D O S) (absent : Absent) (new 
 pub record Frees {D O S : Type 0} (call : Asking D O S) (new : NamesSeen D O S) : Type 0 where
   pub may : MayGo call new.shelf
   pub gone : kept_under new.kept call.name ≡ None
+
+abbrev pub IsNotFreed : {D O S : Type 0} → Asking D O S → NamesSeen D O S → LibraryError → Type 0
+IsNotFreed call new why = IsBarred call unless_there new why ⊎ IsInUse call new why

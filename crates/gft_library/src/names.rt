@@ -5,13 +5,14 @@ ghost use Rattle.gft_book.specs.declared.transfer.Stage.TheVariants.{Rest};
 ghost use Rattle.gft_book.specs.Words.{NamesSome};
 ghost use Rattle.gft_library.specs.Answers.{IsFor, RefusedWith, word_of_file};
 ghost use Rattle.gft_library.specs.Calls.{ByBook, EndsReader, IsNotRead, IsNotStored, IsOfLastTransfer, LendsFile};
-ghost use Rattle.gft_library.specs.Calls.{SizesName, StoresName, TakesBookBack, unless_there};
+ghost use Rattle.gft_library.specs.Calls.{RemovesOrNot, SizesName, StoresName, TakesBookBack, drive_in};
+ghost use Rattle.gft_library.specs.Calls.{unless_there};
 ghost use Rattle.gft_library.specs.Finding.{asking};
-ghost use Rattle.gft_library.specs.Kept.{OnlyUnder};
+ghost use Rattle.gft_library.specs.Kept.{OnlyUnder, kept_under};
 ghost use Rattle.gft_library.specs.Names.{ShelfIsFrom};
 
 use crate::answer::{Answer, Word};
-use crate::holding::Holding;
+use crate::holding::{Holding, into_drive};
 use crate::list::NameList;
 use gft_book::{Book, Finished, How, Reading};
 use gft_drive::{Drive, Origin};
@@ -82,6 +83,23 @@ impl<S: Shelf + Drop, O: Origin> Names<S, O> {
         };
         match self.length(name) {
             Ok(len) => Answer::new(copy, Word::Length(len)),
+            Err(why) => Answer::new(copy, Word::No(why)),
+        }
+    }
+
+    /// Removes the name with its file; no drive is attached for that. `Busy` if the file is in use; `NoSuch`
+    /// if there is none; `ShelfFailed` if the shelf fails, which then may have the file still: the next call
+    /// looks for it there.
+    pub fn remove(&mut self, name: &Name) -> Answer<S>
+        ensures named { IsFor name.now result }
+        ensures only { OnlyUnder self.old.kept self.new.kept name.now }
+        ensures word { RemovesOrNot (asking S.D.state S.state self.old name.now) self.new result.word }
+    {
+        let Ok(copy) = name.copy() else {
+            return Answer::out_of_memory();
+        };
+        match self.take_away(name) {
+            Ok(()) => Answer::new(copy, Word::Removed),
             Err(why) => Answer::new(copy, Word::No(why)),
         }
     }
@@ -167,5 +185,16 @@ impl<S: Shelf + Drop, O: Origin> Names<S, O> {
         ensures ends { EndsReader (asking S.D.state S.state self.old name.now) self.new }
     {
         self.end_read(name);
+    }
+
+    /// Gives the drive that is kept under the name, if its file is at rest; the other files are let go.
+    pub fn into_drive(self, name: &Name) -> Option<S::D>
+        ensures { result ≡ drive_in (kept_under self.kept name.now) }
+    {
+        let mut kept = self.kept;
+        match kept.remove(name) {
+            Some(holding) => into_drive(holding),
+            None => None,
+        }
     }
 }

@@ -2,17 +2,21 @@ ghost use Rattle.std.specs.Prelude.{◌≡◌, ◌≤◌, IfOk, MatchResult};
 ghost use Rattle.gft_drive.specs.Words.{sent_by};
 ghost use Rattle.gft_keep.specs.Words.{keep_of};
 ghost use Rattle.gft_book.specs.Words.{NamesSome};
-ghost use Rattle.gft_library.specs.Calls.{ByBook, EndsReader, IsNotRead, IsNotStored, LendsFile, SizesName};
-ghost use Rattle.gft_library.specs.Calls.{StoresName, TakesBookBack, absent_for, unless_there};
+ghost use Rattle.gft_library.specs.Calls.{ByBook, EndsReader, IsNotRead, IsNotRemoved, IsNotStored, LendsFile};
+ghost use Rattle.gft_library.specs.Calls.{RemovesKept, SizesName, StoresName, TakesBookBack, absent_for};
+ghost use Rattle.gft_library.specs.Calls.{unless_there};
 ghost use Rattle.gft_library.specs.Finding.{asking};
 ghost use Rattle.gft_library.specs.Kept.{OnlyUnder};
+ghost use Rattle.gft_library.specs.Steps.{Frees, IsNotFreed};
 
+use crate::MAX_NAMES;
 use crate::answer::Word;
 use crate::book_calls::{begin_on, lend_of, length_of};
 use crate::error::LibraryError;
-use crate::holding::{Holding, end_read};
+use crate::holding::{Holding, end_read, in_use};
 use crate::names::{Names, Storing};
-use crate::seeking::Absent;
+use crate::seeking::{Absent, seek};
+use gft_base::Failed;
 use gft_book::{Book, How, Reading};
 use gft_drive::{Drive, Origin};
 use gft_outside::Shelf;
@@ -102,6 +106,46 @@ impl<S: Shelf + Drop, O: Origin> Names<S, O> {
     {
         if let Some(holding) = self.kept.put(name, Holding::HandedOut) {
             self.keep(name, end_read(holding));
+        }
+    }
+
+    /// Takes the name from the library and from the shelf.
+    pub(crate) fn take_away(&mut self, name: &Name) -> Result<(), LibraryError>
+        ensures only { OnlyUnder self.old.kept self.new.kept name.now }
+        ensures removes { MatchResult result
+            (λ _. RemovesKept (asking S.D.state S.state self.old name.now) self.new)
+            (IsNotRemoved (asking S.D.state S.state self.old name.now) self.new) }
+    {
+        if let Err(why) = self.free(name) {
+            return Err(why);
+        }
+        match self.shelf.remove(name) {
+            Ok(()) => Ok(()),
+            Err(Failed) => Err(LibraryError::ShelfFailed),
+        }
+    }
+
+    /// Drops what is kept under the name, or its drive on the shelf, if its file is at rest.
+    fn free(&mut self, name: &Name) -> Result<(), LibraryError>
+        ensures only { OnlyUnder self.old.kept self.new.kept name.now }
+        ensures frees { MatchResult result
+            (λ _. Frees (asking S.D.state S.state self.old name.now) self.new)
+            (IsNotFreed (asking S.D.state S.state self.old name.now) self.new) }
+    {
+        if let Some(holding) = self.kept.get(name) {
+            if let Some(found) = in_use(holding) {
+                return Err(LibraryError::Busy { found });
+            }
+            self.kept.forget(name);
+            return Ok(());
+        }
+        if self.kept.len() >= MAX_NAMES {
+            return Err(LibraryError::TooManyNames);
+        }
+        let absent = Absent::Refuse(LibraryError::NoSuch);
+        match seek(self.alloc, &mut self.shelf, name, absent) {
+            Ok(_drive) => Ok(()),
+            Err(why) => Err(why),
         }
     }
 }
