@@ -11,7 +11,7 @@ use Rattle.gft_library.specs.declared.list.KeptName.{KeptName}
 use Rattle.gft_library.specs.Kept.{Puts, kept_under}
 use Rattle.gft_library.specs.Names.{NamesSeen}
 use Rattle.gft_library.specs.Finding.{Asking, Comes, HasDrive, IsBarred, IsKeptFrom, Seeks, asking}
-use Rattle.std.specs.Prelude.{MatchResult, Result, Ok, Err}
+use Rattle.std.specs.Prelude.{IfOk, MatchResult, Result, Ok, Err}
 use Rattle.gft_library.specs.Calls.{ByBook}
 use Rattle.gft_library.specs.Steps.{Brings, Opens, OpensNot, Takes}
 use Rattle.gft_library.proofs.NamesLemmas.{put_nowhere, put_there, same_length}
@@ -108,3 +108,7 @@ pub of_answer : {T E : Type 0} (P P' : T → Type 0) (Q Q' : E → Type 0) (answ
     → MatchResult answer P' Q'
 of_answer P P' Q Q' (Ok value) ok err holds = ok value holds
 of_answer P P' Q Q' (Err why) ok err holds = err why holds
+
+pub of_ok : {T E : Type 0} (P P' : T → Type 0) (Q : E → Type 0) (answer : Result T E) → ((value : T) → P value → P' value) → MatchResult answer P Q → IfOk answer P'
+of_ok P P' Q (Ok value) ok holds = ok value holds
+of_ok P P' Q (Err why) ok holds = tt

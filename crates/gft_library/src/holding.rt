@@ -1,9 +1,9 @@
-ghost use Rattle.std.specs.Prelude.{◌≡◌, IfErr, IfOk, MatchResult, Some};
+ghost use Rattle.std.specs.Prelude.{◌≡◌, ℕ, IfErr, IfOk, IfSome, List, MatchResult, Some};
 ghost use Rattle.gft_drive.specs.Words.{sent_by};
 ghost use Rattle.gft_keep.specs.Words.{keep_of};
 ghost use Rattle.gft_library.specs.Calls.{drive_in, in_use, with_reader_fewer};
 ghost use Rattle.gft_library.specs.Finding.{IsOpenedOn, NotOpenedOn};
-ghost use Rattle.gft_library.specs.Names.{DriveIsFrom};
+ghost use Rattle.gft_library.specs.Names.{DriveIsFrom, IsOwn, IsOwnDrive};
 ghost use Rattle.gft_library.specs.declared.holding.Holding.TheVariants.{AtHand};
 ghost use Rattle.gft_library.specs.Steps.{HasSource, Opens, OpensNot, StaysOwn};
 
@@ -99,7 +99,9 @@ pub(crate) fn in_use<D: Drive + Drop, O: Origin>(holding: &Holding<D, O>) -> Opt
 
 /// The drive of a file that is at rest.
 pub(crate) fn into_drive<D: Drive + Drop, O: Origin>(holding: Holding<D, O>) -> Option<D>
-    ensures { result ≡ drive_in (Some holding) }
+    ensures drive { result ≡ drive_in (Some holding) }
+    ensures own { (name : List ℕ) → IsOwn D.state (sent_by O.source O.orders O.fit) name holding
+        → IfSome result (λ drive. IsOwnDrive (sent_by O.source O.orders O.fit) name (D.state drive)) }
 {
     match holding {
         Holding::AtHand(book) => match book.use_now() {

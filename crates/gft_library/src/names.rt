@@ -9,7 +9,7 @@ ghost use Rattle.gft_library.specs.Calls.{RemovesOrNot, SizesName, StoresName, T
 ghost use Rattle.gft_library.specs.Calls.{unless_there};
 ghost use Rattle.gft_library.specs.Finding.{asking};
 ghost use Rattle.gft_library.specs.Kept.{OnlyUnder, kept_under};
-ghost use Rattle.gft_library.specs.Names.{ShelfIsFrom};
+ghost use Rattle.gft_library.specs.Names.{IsOwnDrive, ShelfIsFrom};
 
 use crate::answer::{Answer, Word};
 use crate::holding::{Holding, into_drive};
@@ -187,9 +187,12 @@ impl<S: Shelf + Drop, O: Origin> Names<S, O> {
         self.end_read(name);
     }
 
-    /// Gives the drive that is kept under the name, if its file is at rest; the other files are let go.
+    /// Gives the drive that is kept under the name, if its file is at rest; the other files are let go. Its
+    /// label is the name, and if the origin names a source for it, it has the source's bytes alone.
     pub fn into_drive(self, name: &Name) -> Option<S::D>
-        ensures { result ≡ drive_in (kept_under self.kept name.now) }
+        ensures drive { result ≡ drive_in (kept_under self.kept name.now) }
+        ensures own { IfSome result (λ drive. IsOwnDrive (sent_by O.source O.orders O.fit) name.now
+            (S.D.state drive)) }
     {
         let mut kept = self.kept;
         match kept.remove(name) {
