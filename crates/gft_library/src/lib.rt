@@ -17,6 +17,8 @@ mod opening;
 mod seeking;
 mod serving;
 mod tally;
+#[cfg(test)]
+mod tests;
 
 pub use answer::{Answer, Word};
 pub use error::LibraryError;
