@@ -1,6 +1,11 @@
+ghost use Rattle.std.specs.Prelude.{◌≡◌};
+ghost use Rattle.gft_keep.specs.Words.{keep_of};
+ghost use Rattle.gft_book.specs.Words.{HasAllPasses};
+ghost use Rattle.gft_book.specs.declared.transfer.Stage.TheVariants.{Rest};
+
 use super::*;
 use gft_base::OutOfMemory;
-use gft_book::{How, Use};
+use gft_book::{Book, How, Use};
 use gft_drive::{CallKind, Drive, FailAt, MemoryDrive, Part, Unknown};
 use gft_outside::{MemoryShelf, NamedDrive};
 use gft_text::read_name;
@@ -53,6 +58,34 @@ fn a_book_is_handed_out_once(rt: HostRuntime) -> Result<(), Fail> {
     assert_eq!(rt; *size.word(), ABSENT);
     let removed = files.remove(&rt, &b);
     assert_eq!(rt; *removed.word(), ABSENT);
+    Ok(())
+}
+
+// The Book, once its transfer is settled, for which no byte came.
+fn settled<D: Drive + Drop>(storing: Storing<D, Unknown>) -> Book<D, Unknown>
+    requires { HasAllPasses storing.book.stage storing.passes.items }
+    ensures rest { result.stage ≡ Rest }
+    ensures label { (keep_of D.state result.keep).drive.label
+        ≡ (keep_of D.state storing.book.keep).drive.label }
+{
+    let Storing { mut book, passes } = storing;
+    let _hole = book.settle(passes);
+    book
+}
+
+#[test]
+fn a_book_comes_back(rt: HostRuntime) -> Result<(), Fail> {
+    let alloc = rt.alloc();
+    let files = files(alloc, Vec::new(alloc), Vec::new(alloc));
+    let a = read_name(alloc, b"a")?;
+    let copy = a.copy()?;
+    let Ok(storing) = files.store(&rt, &a, How::Fresh, 1) else {
+        return Err(OutOfMemory.into());
+    };
+    let book = settled(storing);
+    assert!(rt; files.done_storing(&rt, copy, book, None).is_none());
+    let size = files.size(&rt, &a);
+    assert_eq!(rt; *size.word(), Word::No(LibraryError::Incomplete));
     Ok(())
 }
 
