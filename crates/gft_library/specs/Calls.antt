@@ -32,8 +32,8 @@ use Rattle.gft_library.specs.Names.{NamesSeen}
 abbrev pub ByBook : {D O S : Type 0} → Asking D O S → Absent → NamesSeen D O S → (Seen D → Seen D → Type 0)
     → Type 0
 ByBook {D = D} call absent new does =
-    (book now : Seen D) × Comes call absent new.shelf book × (kept_under new.kept call.name ≡ Some (AtHand now))
-    × does book now
+    (book now : Seen D) × Comes call absent new.shelf book
+    × (kept_under new.kept call.name ≡ Some (AtHand now)) × does book now
 
 -- ---- reading
 
@@ -70,7 +70,8 @@ IsNotRead call new why =
     ⊎ ByBook call unless_there new (RefusesReader call.drive_state why)
 
 -- what `size` answers
-abbrev pub SizesName : {D O S : Type 0} → (List ℕ → Option Sent) → Asking D O S → NamesSeen D O S → Word → Type 0
+abbrev pub SizesName : {D O S : Type 0} → (List ℕ → Option Sent) → Asking D O S → NamesSeen D O S → Word
+    → Type 0
 SizesName sent call new (word.Length len) =
     ByBook call unless_there new
     (λ book now. TellsLength sent (book_of call.drive_state book) (book_of call.drive_state now) len)
@@ -83,7 +84,8 @@ with_reader_fewer (AtHand book) = AtHand (record book { stage = one_reader_fewer
 with_reader_fewer other = other
 
 pub record EndsReader {D O S : Type 0} (call : Asking D O S) (new : NamesSeen D O S) : Type 0 where
-  pub under : kept_under new.kept call.name ≡ option_map with_reader_fewer (kept_under call.old.kept call.name)
+  pub under : kept_under new.kept call.name
+      ≡ option_map with_reader_fewer (kept_under call.old.kept call.name)
   pub shelf : new.shelf ≡ call.old.shelf
 
 -- ---- storing
@@ -114,7 +116,8 @@ absent_for (Resume list) = Refuse (lacks_first list.ranges)
 absent_for other = Make
 
 -- the Book is handed out with a transfer that began on it
-abbrev pub StoresName : {D O S : Type 0} → Asking D O S → How → ℕ → NamesSeen D O S → List Lane → Seen D → Type 0
+abbrev pub StoresName : {D O S : Type 0} → Asking D O S → How → ℕ → NamesSeen D O S → List Lane → Seen D
+    → Type 0
 StoresName {D = D} call how lanes new passes now =
     (book : Seen D) × Comes call (absent_for how) new.shelf book
     × (kept_under new.kept call.name ≡ Some HandedOut)
@@ -184,7 +187,8 @@ pub record IsInUse {D O S : Type 0} (call : Asking D O S) (new : NamesSeen D O S
   pub unchanged : Unchanged call new
 
 abbrev pub IsNotRemoved : {D O S : Type 0} → Asking D O S → NamesSeen D O S → LibraryError → Type 0
-IsNotRemoved call new why = IsBarred call unless_there new why ⊎ IsInUse call new why ⊎ FailsToRemove call new why
+IsNotRemoved call new why =
+    IsBarred call unless_there new why ⊎ IsInUse call new why ⊎ FailsToRemove call new why
 
 -- what `remove` answers
 abbrev pub RemovesOrNot : {D O S : Type 0} → Asking D O S → NamesSeen D O S → Word → Type 0

@@ -73,7 +73,8 @@ pub record IsNowhere {D O S : Type 0} (call : Asking D O S) : Type 0 where
 -- ---- the shelf
 
 -- it has the drive of a name, or makes it where that is to be
-abbrev pub Seeks : {D S : Type 0} → (D → DriveState) → (S → ShelfState D) → Absent → S → S → List ℕ → D → Type 0
+abbrev pub Seeks : {D S : Type 0} → (D → DriveState) → (S → ShelfState D) → Absent → S → S → List ℕ → D
+    → Type 0
 Seeks {S = S} state shelf absent old new name drive =
     FindsDrive (state drive) (shelf old) (shelf new) name drive
     ⊎ ((absent ≡ Make) × ((before : S) × FindsNone (shelf old) (shelf before) name
@@ -126,7 +127,8 @@ Comes {D = D} call absent now book =
 -- ---- it doesn't
 
 -- want of memory before anything was done
-pub record IsWant {D O S : Type 0} (call : Asking D O S) (new : NamesSeen D O S) (why : LibraryError) : Type 0 where
+pub record IsWant {D O S : Type 0} (call : Asking D O S) (new : NamesSeen D O S) (why : LibraryError)
+    : Type 0 where
   pub is : why ≡ error.OutOfMemory
   pub unchanged : Unchanged call new
 
@@ -163,7 +165,8 @@ pub record IsNotOpened {D O S : Type 0} (call : Asking D O S) (absent : Absent) 
 
 -- before a drive is there
 abbrev pub IsBarred : {D O S : Type 0} → Asking D O S → Absent → NamesSeen D O S → LibraryError → Type 0
-IsBarred call absent new why = IsWant call new why ⊎ IsOneTooMany call new why ⊎ IsNotGiven call absent new why
+IsBarred call absent new why =
+    IsWant call new why ⊎ IsOneTooMany call new why ⊎ IsNotGiven call absent new why
 
 abbrev pub IsKeptFrom : {D O S : Type 0} → Asking D O S → Absent → NamesSeen D O S → LibraryError → Type 0
 IsKeptFrom call absent new why =

@@ -37,8 +37,8 @@ OpensNot {D = D} state (Unread drive) why left =
     (later : D) × (left ≡ Unread later) × NotOpenedOn state drive why later
 
 -- the drive of a name that was nowhere is there
-pub record AdmitsNew {D O S : Type 0} (call : Asking D O S) (absent : Absent) (new : NamesSeen D O S) (drive : D)
-    : Type 0 where
+pub record AdmitsNew {D O S : Type 0} (call : Asking D O S) (absent : Absent) (new : NamesSeen D O S)
+    (drive : D) : Type 0 where
   pub nowhere : IsNowhere call
   pub given : Seeks call.drive_state call.shelf_state absent call.old.shelf new.shelf call.name drive
   pub stands : kept_under new.kept call.name ≡ Some HandedOut
@@ -56,8 +56,8 @@ pub record Admits {D O S : Type 0} (call : Asking D O S) (absent : Absent) (new 
   pub stands : kept_under new.kept call.name ≡ Some HandedOut
 
 -- the name's Book is taken
-pub record Brings {D O S : Type 0} (call : Asking D O S) (absent : Absent) (new : NamesSeen D O S) (book : Seen D)
-    : Type 0 where
+pub record Brings {D O S : Type 0} (call : Asking D O S) (absent : Absent) (new : NamesSeen D O S)
+    (book : Seen D) : Type 0 where
   pub comes : Comes call absent new.shelf book
   pub stands : kept_under new.kept call.name ≡ Some HandedOut
 

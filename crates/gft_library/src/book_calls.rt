@@ -2,7 +2,8 @@ ghost use Rattle.std.specs.Prelude.{◌≡◌, ◌≤◌, MatchResult};
 ghost use Rattle.gft_drive.specs.Words.{sent_by};
 ghost use Rattle.gft_keep.specs.Words.{keep_of};
 ghost use Rattle.gft_book.specs.Words.{NamesSome, book_of};
-ghost use Rattle.gft_library.specs.Calls.{BeginsTransfer, LendsFile, RefusesReader, RefusesTransfer, TellsLength};
+ghost use Rattle.gft_library.specs.Calls.{BeginsTransfer, LendsFile, RefusesReader, RefusesTransfer};
+ghost use Rattle.gft_library.specs.Calls.{TellsLength};
 
 use crate::error::LibraryError;
 use gft_book::{Book, How, Reading};
@@ -13,7 +14,8 @@ use gft_pass::Pass;
 pub(crate) fn length_of<D: Drive + Drop, O: Origin>(
     book: &mut Book<D, O>,
 ) -> Result<u64, LibraryError>
-    ensures label { (keep_of D.state book.new.keep).drive.label ≡ (keep_of D.state book.old.keep).drive.label }
+    ensures label { (keep_of D.state book.new.keep).drive.label
+        ≡ (keep_of D.state book.old.keep).drive.label }
     ensures length { MatchResult result
         (λ len. TellsLength (sent_by O.source O.orders O.fit) (book_of D.state book.old)
         (book_of D.state book.new) len)
@@ -35,10 +37,11 @@ pub(crate) fn lend_of<D: Drive + Drop, O: Origin>(
     drives: u16,
 ) -> Result<Reading<D>, LibraryError>
     requires drives { (1 ≤ drives) × (drives ≤ 16) }
-    ensures label { (keep_of D.state book.new.keep).drive.label ≡ (keep_of D.state book.old.keep).drive.label }
+    ensures label { (keep_of D.state book.new.keep).drive.label
+        ≡ (keep_of D.state book.old.keep).drive.label }
     ensures lends { MatchResult result
-        (λ reading. LendsFile D.state (sent_by O.source O.orders O.fit) drives reading.drives.items reading.len
-        book.old book.new)
+        (λ reading. LendsFile D.state (sent_by O.source O.orders O.fit) drives reading.drives.items
+        reading.len book.old book.new)
         (λ why. RefusesReader D.state why book.old book.new) }
 {
     match book.begin_read(drives) {
@@ -55,7 +58,8 @@ pub(crate) fn begin_on<D: Drive + Drop, O: Origin>(
 ) -> Result<Vec<Pass>, LibraryError>
     requires lanes { (1 ≤ lanes) × (lanes ≤ 16) }
     requires list { NamesSome how }
-    ensures label { (keep_of D.state book.new.keep).drive.label ≡ (keep_of D.state book.old.keep).drive.label }
+    ensures label { (keep_of D.state book.new.keep).drive.label
+        ≡ (keep_of D.state book.old.keep).drive.label }
     ensures begins { MatchResult result
         (λ passes. BeginsTransfer D.state how lanes passes.items book.old book.new)
         (λ why. RefusesTransfer D.state how why book.old book.new) }

@@ -60,7 +60,8 @@ fn open_drive<D: Drive + Drop, O: Origin>(
     ensures label { MatchResult result
         (λ book. (keep_of D.state book.keep).drive.label ≡ (D.state drive).label)
         (λ refused. (D.state refused.1).label ≡ (D.state drive).label) }
-    ensures from { IfErr result (λ refused. DriveIsFrom (sent_by O.source O.orders O.fit) (D.state refused.1)) }
+    ensures from { IfErr result (λ refused. DriveIsFrom (sent_by O.source O.orders O.fit)
+        (D.state refused.1)) }
 {
     match Keep::attach(alloc, drive) {
         Ok(keep) => Ok(Book::new(alloc, keep)),

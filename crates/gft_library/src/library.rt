@@ -4,8 +4,8 @@ ghost use Rattle.gft_keep.specs.Words.{keep_of};
 ghost use Rattle.gft_book.specs.declared.transfer.Stage.TheVariants.{Rest};
 ghost use Rattle.gft_book.specs.Words.{NamesSome};
 ghost use Rattle.gft_library.specs.Answers.{Answers, IsFor, Removes, Retrieves, Sizes, Stores, word_of_file};
-ghost use Rattle.gft_library.specs.Calls.{ByBook, IsOfLastTransfer, LendsFile, RemovesOrNot, SizesName, StoresName};
-ghost use Rattle.gft_library.specs.Calls.{unless_there};
+ghost use Rattle.gft_library.specs.Calls.{ByBook, IsOfLastTransfer, LendsFile, RemovesOrNot, SizesName};
+ghost use Rattle.gft_library.specs.Calls.{StoresName, unless_there};
 ghost use Rattle.gft_library.specs.Finding.{asking};
 ghost use Rattle.gft_library.specs.Names.{IsOwnDrive, NamesSeen, ShelfIsFrom};
 
@@ -65,7 +65,8 @@ impl<S: Shelf + Drop, O: Origin> Library<S, O> {
     ) -> Result<Storing<S::D, O>, Answer<S>>
         requires lanes { (1 ≤ lanes) × (lanes ≤ 16) }
         requires list { NamesSome how }
-        ensures label { IfOk result (λ storing. (keep_of S.D.state storing.book.keep).drive.label ≡ name.now) }
+        ensures label { IfOk result (λ storing.
+            (keep_of S.D.state storing.book.keep).drive.label ≡ name.now) }
         ensures stores { IfOk result (λ storing. (old new : NamesSeen S.D O S)
             × StoresName (asking S.D.state S.state old name.now) how lanes new storing.passes.items
             storing.book) }
@@ -86,7 +87,8 @@ impl<S: Shelf + Drop, O: Origin> Library<S, O> {
         requires label { (keep_of S.D.state book.keep).drive.label ≡ name }
         requires rest { book.stage ≡ Rest }
         requires of_it { IfSome done (IsOfLastTransfer book.last) }
-        ensures answer { result ≡ option_map (λ file. record { name = Some name; word = word_of_file file }) done }
+        ensures answer { result
+            ≡ option_map (λ file. record { name = Some name; word = word_of_file file }) done }
     {
         self.names.lock(rt).done_storing(name, book, done)
     }

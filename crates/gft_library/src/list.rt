@@ -1,4 +1,4 @@
-ghost use Rattle.std.specs.Prelude.{◌≡◌, [], Err, length, MatchOption, None, OnErr, OnOk, option_copied, position};
+ghost use Rattle.std.specs.Prelude.{◌≡◌, [], length, MatchOption, None, OnErr, OnOk, option_copied, position};
 ghost use Rattle.gft_library.specs.Kept.{Adds, LetsGo, Puts, StandsAt, is_under, kept_under};
 
 use gft_base::OutOfMemory;

@@ -4,9 +4,9 @@ ghost use Rattle.gft_keep.specs.Words.{keep_of};
 ghost use Rattle.gft_book.specs.declared.transfer.Stage.TheVariants.{Rest};
 ghost use Rattle.gft_book.specs.Words.{NamesSome};
 ghost use Rattle.gft_library.specs.Answers.{IsFor, RefusedWith, word_of_file};
-ghost use Rattle.gft_library.specs.Calls.{ByBook, EndsReader, IsNotRead, IsNotStored, IsOfLastTransfer, LendsFile};
-ghost use Rattle.gft_library.specs.Calls.{RemovesOrNot, SizesName, StoresName, TakesBookBack, drive_in};
-ghost use Rattle.gft_library.specs.Calls.{unless_there};
+ghost use Rattle.gft_library.specs.Calls.{ByBook, EndsReader, IsNotRead, IsNotStored, IsOfLastTransfer};
+ghost use Rattle.gft_library.specs.Calls.{LendsFile, RemovesOrNot, SizesName, StoresName, TakesBookBack};
+ghost use Rattle.gft_library.specs.Calls.{drive_in, unless_there};
 ghost use Rattle.gft_library.specs.Finding.{asking};
 ghost use Rattle.gft_library.specs.Kept.{OnlyUnder, kept_under};
 ghost use Rattle.gft_library.specs.Names.{IsOwnDrive, ShelfIsFrom};
@@ -75,8 +75,8 @@ impl<S: Shelf + Drop, O: Origin> Names<S, O> {
     pub fn size(&mut self, name: &Name) -> Answer<S>
         ensures named { IsFor name.now result }
         ensures only { OnlyUnder self.old.kept self.new.kept name.now }
-        ensures word { SizesName (sent_by O.source O.orders O.fit) (asking S.D.state S.state self.old name.now)
-            self.new result.word }
+        ensures word { SizesName (sent_by O.source O.orders O.fit)
+            (asking S.D.state S.state self.old name.now) self.new result.word }
     {
         let Ok(copy) = name.copy() else {
             return Answer::out_of_memory();
@@ -115,7 +115,8 @@ impl<S: Shelf + Drop, O: Origin> Names<S, O> {
     ) -> Result<Storing<S::D, O>, Answer<S>>
         requires lanes { (1 ≤ lanes) × (lanes ≤ 16) }
         requires list { NamesSome how }
-        ensures label { IfOk result (λ storing. (keep_of S.D.state storing.book.keep).drive.label ≡ name.now) }
+        ensures label { IfOk result (λ storing.
+            (keep_of S.D.state storing.book.keep).drive.label ≡ name.now) }
         ensures named { IfErr result (IsFor name.now) }
         ensures only { OnlyUnder self.old.kept self.new.kept name.now }
         ensures stores { MatchResult result
@@ -144,7 +145,8 @@ impl<S: Shelf + Drop, O: Origin> Names<S, O> {
         requires label { (keep_of S.D.state book.keep).drive.label ≡ name }
         requires rest { book.stage ≡ Rest }
         requires of_it { IfSome done (IsOfLastTransfer book.last) }
-        ensures answer { result ≡ option_map (λ file. record { name = Some name; word = word_of_file file }) done }
+        ensures answer { result
+            ≡ option_map (λ file. record { name = Some name; word = word_of_file file }) done }
         ensures only { OnlyUnder self.old.kept self.new.kept name }
         ensures back { TakesBookBack (asking S.D.state S.state self.old name) self.new book }
     {

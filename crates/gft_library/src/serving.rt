@@ -2,9 +2,9 @@ ghost use Rattle.std.specs.Prelude.{◌≡◌, ◌≤◌, IfOk, MatchResult};
 ghost use Rattle.gft_drive.specs.Words.{sent_by};
 ghost use Rattle.gft_keep.specs.Words.{keep_of};
 ghost use Rattle.gft_book.specs.Words.{NamesSome};
-ghost use Rattle.gft_library.specs.Calls.{ByBook, EndsReader, IsNotRead, IsNotRemoved, IsNotStored, LendsFile};
-ghost use Rattle.gft_library.specs.Calls.{RemovesKept, SizesName, StoresName, TakesBookBack, absent_for};
-ghost use Rattle.gft_library.specs.Calls.{unless_there};
+ghost use Rattle.gft_library.specs.Calls.{ByBook, EndsReader, IsNotRead, IsNotRemoved, IsNotStored};
+ghost use Rattle.gft_library.specs.Calls.{LendsFile, RemovesKept, SizesName, StoresName, TakesBookBack};
+ghost use Rattle.gft_library.specs.Calls.{absent_for, unless_there};
 ghost use Rattle.gft_library.specs.Finding.{asking};
 ghost use Rattle.gft_library.specs.Kept.{OnlyUnder};
 ghost use Rattle.gft_library.specs.Steps.{Frees, IsNotFreed};
@@ -68,7 +68,8 @@ impl<S: Shelf + Drop, O: Origin> Names<S, O> {
     ) -> Result<Storing<S::D, O>, LibraryError>
         requires lanes { (1 ≤ lanes) × (lanes ≤ 16) }
         requires list { NamesSome how }
-        ensures label { IfOk result (λ storing. (keep_of S.D.state storing.book.keep).drive.label ≡ name.now) }
+        ensures label { IfOk result (λ storing.
+            (keep_of S.D.state storing.book.keep).drive.label ≡ name.now) }
         ensures only { OnlyUnder self.old.kept self.new.kept name.now }
         ensures stores { MatchResult result
             (λ storing. StoresName (asking S.D.state S.state self.old name.now) how lanes self.new
