@@ -8,7 +8,7 @@ use Rattle.std.proofs.lemmas.Bool.{cases_lt, eqb-true, eq-eqb, lt-ltb}
 use Rattle.std.proofs.lemmas.Option.{same_Some}
 use Rattle.std.proofs.lemmas.List.Quantifiers.{position-Some}
 use Rattle.gft_library.specs.declared.list.KeptName.{KeptName}
-use Rattle.gft_library.specs.Kept.{Adds, AreApart, LetsGo, OnlyUnder, Puts, StandsAt, count_of, in_place, is_under, kept_under}
+use Rattle.gft_library.specs.Kept.{Adds, AreApart, LetsGo, Puts, StandsAt, count_of, in_place, is_under, kept_under}
 
 -- ---- names
 
@@ -242,11 +242,6 @@ module _ {T : Type 0} (e : KeptName T) where
           many = omega (arith, remove_length kept place at, ap count_of was, ap count_of is);
         };
       }
-
--- ---- nothing changes
-
-pub only_itself : {T : Type 0} (kept : List (KeptName T)) (name : List ℕ) → OnlyUnder kept kept name
-only_itself kept name = record { others = λ other apart. refl; many = refl }
 
 -- ---- the calls: `e` is what they find at a place of the list
 

@@ -107,6 +107,3 @@ module _ {D O S : Type 0} (drive_state : D → DriveState) (shelf_state : S → 
     pub names_not_given : (next : S) (new : List (KeptName (Holding D O))) → kept_under kept name ≡ None → length kept < MAX_NAMES → ShelfIsFrom drive_state sent (shelf_state next) → LetsGo mid new name
         → Are shelf kept → Are next new
     names_not_given next new none room from goes are = names_remove next mid new name goes (names_given next none room from are)
-
-    pub only_again : (new : List (KeptName (Holding D O))) → LetsGo mid new name → OnlyUnder kept new name
-    only_again new goes = only_both name kept mid new added.only goes.only

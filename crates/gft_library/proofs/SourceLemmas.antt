@@ -6,7 +6,7 @@ use Rattle.gft_drive.specs.Words.{DriveState, Elapses, Image, IsLawful, LeavesBy
 use Rattle.gft_core.specs.Words.{CarriesSource, held}
 use Rattle.gft_book.specs.Words.{IsFrom}
 use Rattle.gft_outside.specs.declared.shelf.ShelfError.{ShelfError}
-use Rattle.gft_outside.specs.Words.{FindsDrive, FindsNone, IsNewDrive, MakesDrive, NotFound, NotMade, NotRemoved, RemovesName, SameDrives, ShelfState}
+use Rattle.gft_outside.specs.Words.{FindsDrive, FindsNone, IsNewDrive, MakesDrive, NotFound, NotMade, SameDrives, ShelfState}
 use Rattle.gft_library.specs.Names.{DriveIsFrom, ShelfIsFrom}
 use Rattle.gft_library.specs.Finding.{Seeks, SeeksNot}
 use Rattle.gft_library.specs.declared.error.LibraryError.{LibraryError}
@@ -138,15 +138,6 @@ module _ (sent : List ℕ → Option Sent) where
         lift : (drives : Option (List ℕ → Option D)) → IfSome drives (λ at. IfSome (at name) (λ drive. IsNewDrive (state drive) name)) → IfSome drives (λ at. UnderFrom (at name))
         lift None under = tt
         lift (Some at) under = under_new (at name) under
-
-    pub removed_from : (old new : ShelfState D) (name : List ℕ) → RemovesName old new name → ShelfIsFrom state sent old → ShelfIsFrom state sent new
-    removed_from old new name removed from = others_from old.drives new.drives name removed.others (gone_from new name removed.gone) from
-
-    pub not_removed_from : (old new : ShelfState D) (name : List ℕ) → NotRemoved old new name → ShelfIsFrom state sent old → ShelfIsFrom state sent new
-    not_removed_from old new name refused from = elim refused.under [
-      | inl same ↦ all_from old.drives new.drives same from
-      | inr gone ↦ others_from old.drives new.drives name refused.others (gone_from new name gone) from
-    ]
 
   -- ---- a name that is nowhere
 

@@ -13,7 +13,7 @@ use Rattle.gft_library.specs.Names.{NamesSeen}
 use Rattle.gft_library.specs.Finding.{Asking, Comes, HasDrive, IsBarred, IsKeptFrom, Seeks, asking}
 use Rattle.std.specs.Prelude.{IfOk, MatchResult, Result, Ok, Err}
 use Rattle.gft_library.specs.Calls.{ByBook}
-use Rattle.gft_library.specs.Steps.{Brings, Opens, OpensNot, Takes}
+use Rattle.gft_library.specs.Steps.{Brings, OpensNot, Takes}
 use Rattle.gft_library.proofs.NamesLemmas.{put_nowhere, put_there, same_length}
 
 module _ {D O S : Type 0} (drive_state : D → DriveState) (shelf_state : S → ShelfState D) (name : List ℕ) where
@@ -76,21 +76,6 @@ module _ {D O S : Type 0} (call : Asking D O S) (absent : Absent) where
         refused = opens.2;
         stays = is ∙ ap Some opens.1;
       }))
-
-  -- a Book that was kept, or whose drive was attached, came to hand
-  pub opened : (now : S) (holding : Holding D O) (book : Seen D) → Takes call absent now holding → Opens call.drive_state holding book → Comes call absent now book
-  opened now (AtHand kept) book takes opens =
-      let was = book_taken now (AtHand kept) other takes in
-      let again : at_hand kept ≡ at_hand book = ap at_hand (sym opens) in
-      inl (was.0 ∙ ap Some again, was.1)
-    where
-      at_hand : Seen D → Holding D O
-      at_hand b = AtHand b
-
-      other : (drive : D) → ◌≡◌ {A = Holding D O} (AtHand kept) (Unread drive) → ⊥
-      other drive e = cc
-  opened now HandedOut book takes opens = absurd opens
-  opened now (Unread drive) book takes opens = inr (drive, drive_taken now drive takes, opens)
 
   -- a Book that was taken, and put back after a call
   pub by_book : (does : Seen D → Seen D → Type 0) (mid new : NamesSeen D O S) (book now : Seen D) → Brings call absent mid book → Puts mid.kept new.kept call.name (AtHand now) → new.shelf ≡ mid.shelf
