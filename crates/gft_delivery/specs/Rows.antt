@@ -99,19 +99,37 @@ no_fourth (suc zero) le = absurd (omega (arith, le))
 no_fourth (suc (suc zero)) le = absurd (omega (arith, le))
 no_fourth (suc (suc (suc lane))) le = refl
 
-each_of_ten : (x : ℕ) → x < length ten → (lane : ℕ) × (lane < ten_orders.lanes) × IsAmong x (ten_orders.order lane)
+first_has : (x : ℕ) → x < 4 → IsAmong x (ten_orders.order 0)
+first_has x lt =
+    subst (IsAmong x) (sym first_order) (among_offsets 0 x (codes "abcd") (omega arith) (omega (arith, lt)))
+
+second_has : (x : ℕ) → 4 ≤ x → x < 8 → IsAmong x (ten_orders.order 1)
+second_has x le lt =
+    subst (IsAmong x) (sym second_order) (among_offsets 4 x (codes "efgh") le (omega (arith, lt)))
+
+third_has : (x : ℕ) → 8 ≤ x → x < 10 → IsAmong x (ten_orders.order 2)
+third_has x le lt = subst (IsAmong x) (sym third_order) (among_offsets 8 x (codes "ij") le (omega (arith, lt)))
+
+each_of_ten : (x : ℕ) → x < length ten
+    → (lane : ℕ) × (lane < ten_orders.lanes) × IsAmong x (ten_orders.order lane)
 each_of_ten x lt = elim (cases_lt x 4) [
-  | inl first ↦ (0, omega arith, subst (IsAmong x) (sym first_order) (among_offsets 0 x (codes "abcd") (omega arith) (omega (arith, first))))
+  | inl first ↦ (0, omega arith, first_has x (omega (arith, first)))
   | inr later ↦ elim (cases_lt x 8) [
-    | inl second ↦ (1, omega arith, subst (IsAmong x) (sym second_order) (among_offsets 4 x (codes "efgh") later (omega (arith, second))))
-    | inr third ↦ (2, omega arith, subst (IsAmong x) (sym third_order) (among_offsets 8 x (codes "ij") third (omega (arith, lt))))
+    | inl second ↦ (1, omega arith, second_has x (omega (arith, later)) (omega (arith, second)))
+    | inr third ↦ (2, omega arith, third_has x (omega (arith, third)) (omega (arith, lt)))
   ]
 ]
 
 ten_below : (lane x : ℕ) → IsAmong x (ten_orders.order lane) → x < length ten
-ten_below zero x among = let below = offsets_below 0 x (codes "abcd") (subst (IsAmong x) first_order among) in omega (arith, below)
-ten_below (suc zero) x among = let below = offsets_below 4 x (codes "efgh") (subst (IsAmong x) second_order among) in omega (arith, below)
-ten_below (suc (suc zero)) x among = let below = offsets_below 8 x (codes "ij") (subst (IsAmong x) third_order among) in omega (arith, below)
+ten_below zero x among =
+    let below = offsets_below 0 x (codes "abcd") (subst (IsAmong x) first_order among) in
+    omega (arith, below)
+ten_below (suc zero) x among =
+    let below = offsets_below 4 x (codes "efgh") (subst (IsAmong x) second_order among) in
+    omega (arith, below)
+ten_below (suc (suc zero)) x among =
+    let below = offsets_below 8 x (codes "ij") (subst (IsAmong x) third_order among) in
+    omega (arith, below)
 ten_below (suc (suc (suc lane))) x none = absurd none
 
 ten_sending : (rest : List Range) → IsSending ten rest ten_orders

@@ -41,7 +41,8 @@ half_below zero x among = let below = offsets_below 5 x (codes "world") among in
 half_below (suc zero) x among = let below = offsets_below 0 x (codes "hello") among in omega (arith, below)
 half_below (suc (suc lane)) x none = absurd none
 
-each_half : (x : ℕ) → x < length hello_world → (lane : ℕ) × (lane < two_halves.lanes) × IsAmong x (two_halves.order lane)
+each_half : (x : ℕ) → x < length hello_world
+    → (lane : ℕ) × (lane < two_halves.lanes) × IsAmong x (two_halves.order lane)
 each_half x lt = elim (cases_lt x 5) [
   | inl first ↦ (1, omega arith, among_offsets 0 x (codes "hello") (omega arith) (omega (arith, first)))
   | inr second ↦ (0, omega arith, among_offsets 5 x (codes "world") second (omega (arith, lt)))
