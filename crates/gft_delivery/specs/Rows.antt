@@ -12,7 +12,7 @@ use Rattle.gft_core.specs.Words.{lane_offsets}
 use Rattle.gft_drive.specs.Words.{AreFit, IsAmong, IsSending, Orders, offsets_from}
 use Rattle.gft_drive.proofs.Lemmas.{among_offsets, offsets_below}
 use Rattle.gft_drive.specs.declared.memory.MemoryDrive.{MemoryDrive}
-use Rattle.gft_drive.specs.Memory.{image_of}
+use Rattle.gft_drive.specs.Words.{image_of}
 use Rattle.gft_outside.specs.declared.memory_out_lane.MemoryOutLane.{MemoryOutLane}
 use Rattle.gft_outside.specs.Words.{LaneInput, LaneState, arrival_events, lane_arrivals}
 use Rattle.gft_send.specs.declared.SendPlan.{SendPlan}

@@ -1,7 +1,7 @@
 ghost use Rattle.std.specs.Prelude.{◌≡◌, ◌≤◌, ◌<◌, true, All, IfOk, length, vec_len};
 ghost use Rattle.gft_book.specs.declared.transfer.Stage.TheVariants.{Rest};
 ghost use Rattle.gft_book.specs.Words.{NamesSome};
-ghost use Rattle.gft_drive.specs.Memory.{image_of};
+ghost use Rattle.gft_drive.specs.Words.{image_of};
 ghost use Rattle.gft_outside.specs.Words.{lane_state, no_channels};
 ghost use Rattle.gft_send.specs.Words.{IsSendPlan};
 ghost use Rattle.gft_receive.specs.Words.{BringsBytes};

@@ -2,7 +2,7 @@
 pub use Rattle.gft_drive.specs.Drive.{DriveState, Image, IsLawful, MayLeave, Goes, Elapses, Unchanged}
 pub use Rattle.gft_drive.specs.Drive.{OnPart, Reads, ReadsBy, Leaves, LeavesBy, ChangesOnly, IsSynced}
 pub use Rattle.gft_drive.specs.Drive.{HasLength, HasRead, part_of}
-pub use Rattle.gft_drive.specs.Memory.{IsNew, Memory}
+pub use Rattle.gft_drive.specs.Memory.{IsNew, Memory, image_of}
 pub use Rattle.gft_drive.specs.Sink.{AppendsPart, IsPartOf}
 pub use Rattle.gft_drive.specs.Twin.{HasTwinCause, IsTwin}
 pub use Rattle.gft_drive.specs.Write.{Anything, CutTo, DiffersIn, Same, Torn, TornCut, Written}

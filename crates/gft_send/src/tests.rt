@@ -1,6 +1,6 @@
 ghost use Rattle.std.specs.Prelude.{◌≡◌, ◌≤◌, true, All, IfOk, length, vec_len};
 ghost use Rattle.gft_range.specs.Words.{InRange};
-ghost use Rattle.gft_drive.specs.Memory.{image_of};
+ghost use Rattle.gft_drive.specs.Words.{image_of};
 ghost use Rattle.gft_send.specs.Sending.{MustHave};
 
 use super::*;

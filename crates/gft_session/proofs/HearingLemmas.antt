@@ -4,7 +4,7 @@ use Rattle.std.proofs.lemmas.List.{take_all}
 use Rattle.std.specs.Prelude.{map, reverse}
 use Rattle.gft_base.specs.Words.{line_feed}
 use Rattle.gft_text.specs.Words.{CarriesLine, Held, Overlong, Overruns, TakesAll, TakesLine, lines_told}
-use Rattle.gft_text.specs.Lines.{lines_to_come}
+use Rattle.gft_text.specs.Words.{lines_to_come}
 use Rattle.gft_text.specs.declared.lines.Fed.{Fed}
 use Rattle.gft_outside.specs.Words.{ControlInput, ControlState, Hears, Pause, Said, said}
 use Rattle.gft_session.specs.Hearing.{Brings}

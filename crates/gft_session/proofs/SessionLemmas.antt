@@ -2,9 +2,9 @@
 use Rattle.std.proofs.Common.{◌≡◌, ℕ, ◌++◌, List, [], ◌∷◌, Option, Result, IsOk, refl, sym, ap, ◌∙◌, append_assoc, append-nil, subst, inl, inr, ◌⊎◌}
 use Rattle.std.specs.Io.KnownBytes.{Appends}
 use Rattle.gft_drive.specs.Words.{IsPartOf}
-use Rattle.gft_text.specs.LineStream.{Line, Told, told}
+use Rattle.gft_text.specs.Words.{Line, Told, told}
 use Rattle.gft_text.specs.Words.{Held, shown}
-use Rattle.gft_text.specs.Lines.{lines_to_come}
+use Rattle.gft_text.specs.Words.{lines_to_come}
 use Rattle.gft_outside.specs.Words.{ControlInput, ControlState, said}
 use Rattle.gft_outside.proofs.Lemmas.{hears_more, hears_none}
 use Rattle.gft_session.specs.declared.session_end.SessionEnd.{SessionEnd}

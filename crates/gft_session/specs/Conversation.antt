@@ -6,7 +6,7 @@ use Rattle.std.specs.Io.KnownBytes.{Appends}
 use Rattle.gft_base.specs.Words.{Rose}
 use Rattle.gft_drive.specs.Words.{IsPartOf}
 use Rattle.gft_text.specs.Words.{Held, Line, Told, told}
-use Rattle.gft_text.specs.Lines.{lines_to_come}
+use Rattle.gft_text.specs.Words.{lines_to_come}
 use Rattle.gft_reply.specs.declared.reply.Reply.{Reply}
 use Rattle.gft_reply.specs.Words.{reply_text}
 use Rattle.gft_command.specs.Words.{IsCommand}

@@ -2,7 +2,7 @@
 use Rattle.std.specs.Prelude.{◌≡◌, ℕ, ◌+◌, ◌<◌, true, List, [], ◌∷◌, ◌++◌, Result, Err}
 use Rattle.gft_base.specs.Words.{Rose}
 use Rattle.gft_text.specs.Words.{Held, Line, Overlong, Told, shown}
-use Rattle.gft_text.specs.Lines.{lines_to_come}
+use Rattle.gft_text.specs.Words.{lines_to_come}
 use Rattle.gft_outside.specs.Words.{ControlInput, ControlState, Hears, IsOver, Pause, Said, said}
 use Rattle.gft_session.specs.declared.session_end.SessionEnd.{SessionEnd}
 use Rattle.gft_session.specs.declared.session_end.SessionEnd.TheVariants as ends

@@ -2,7 +2,7 @@
 
 ghost use Rattle.std.specs.Prelude.{◌≡◌, ◌≤◌, [], MatchResult};
 ghost use Rattle.gft_base.specs.Words.{Rose};
-ghost use Rattle.gft_text.specs.Lines.{lines_to_come};
+ghost use Rattle.gft_text.specs.Words.{lines_to_come};
 ghost use Rattle.gft_session.specs.Hearing.{HearsLine, StopsHearing, HasHeard};
 
 use crate::session_end::SessionEnd;

@@ -1,5 +1,5 @@
 use Rattle.std.proofs.Common.{◌≤◌, length}
-use Rattle.gft_drive.specs.Memory.{image_of}
+use Rattle.gft_drive.specs.Words.{image_of}
 use Rattle.gft_send.proofs.TestLemmas.{has_ten}
 use Rattle.gft_send.proofs.tests.in_memory.Goals as goal
 

@@ -1,7 +1,7 @@
 use Rattle.std.proofs.Common.{◌∙◌}
 use Rattle.gft_layout.specs.declared.Layout.TheVariants.{Blocked}
 use Rattle.gft_drive.specs.declared.MemoryDrive.{MemoryDrive}
-use Rattle.gft_drive.specs.Memory.{image_of}
+use Rattle.gft_drive.specs.Words.{image_of}
 use Rattle.gft_drive.specs.Replay.{state_after}
 use Rattle.gft_outside.specs.declared.MemoryOutLane.{MemoryOutLane}
 use Rattle.gft_outside.specs.Words.{out_lane_state}

@@ -1,5 +1,5 @@
 use Rattle.std.proofs.Common.{◌≡◌, ◌<◌, List, [], length}
-use Rattle.gft_text.specs.Lines.{lines_to_come}
+use Rattle.gft_text.specs.Words.{lines_to_come}
 use Rattle.gft_outside.specs.Words.{ControlInput, Hears}
 use Rattle.gft_session.specs.Hearing.{Brings, IsPatient, pauses}
 use Rattle.gft_session.proofs.hearing.next_line.Given as goal
