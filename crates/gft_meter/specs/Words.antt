@@ -1,0 +1,3 @@
+-- The words of this crate that the clauses and proofs of other crates may cite.
+pub use Rattle.gft_meter.specs.Adds.{MeterState, SeatState, added_on, all_rights, bytes_on, joined, most_added, with_bytes}
+pub use Rattle.gft_meter.specs.declared.view.Add.{Add}
