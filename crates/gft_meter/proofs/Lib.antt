@@ -1,2 +1,5 @@
+mod AddLemmas
 mod StepLemmas
 mod SumLemmas
+-- what the proofs of other crates may cite
+pub mod Lemmas

@@ -1,18 +1,19 @@
 -- Each step on a meter keeps its rule.
-use Rattle.std.proofs.Common.{◌≡◌, ◌≢◌, ◌⊎◌, ℕ, ◌+◌, ◌-◌, ◌*◌, ◌^◌, ◌%◌, ◌<◌, ◌≤◌, List, [], ◌∷◌, ◌++◌, length, replicate, set, Bool, true, refl, sym, ap, ◌∙◌, subst, ⊎_elim, length-set, eq-eqb, ne_eqb, arith}
+use Rattle.std.proofs.Common.{◌≡◌, ◌≢◌, ℕ, ◌+◌, ◌*◌, ◌^◌, ◌%◌, ◌<◌, ◌≤◌, List, [], ◌∷◌, ◌++◌, set, Bool, true, refl, sym, ap, ◌∙◌, subst, ⊎_elim, length-set, arith}
 use Rattle.std.specs.Prelude.{slice_index, sum_by, if◌then◌else◌}
 use Rattle.std.proofs.Math.Nat.{mod-eq_of_lt}
 use Rattle.std.proofs.lemmas.List.{get_or-set_same, get_or-set_other, set-get_or}
-use Rattle.std.proofs.lemmas.List.Sums.{sum_by-append, sum_by-cons, sum_by_push}
-use mathlib.Core.Option.{some, some-ne-none, some-injective}
+use Rattle.std.proofs.lemmas.List.Sums.{sum_by_push}
+use mathlib.Core.Option.{some}
 use mathlib.Core.Logic.{dite}
 use native.Mathlib.Decide.{ℕ_discrete}
 use lib.ListN.{get_elem?}
 use Rattle.atomic_table.proofs.Lists.{at_set, at_snoc, set_else, set_again}
 use Rattle.gft_meter.specs.declared.view.Add.{Add}
 use Rattle.gft_meter.specs.declared.view.View.{View}
-use Rattle.gft_meter.specs.Adds.{added_on, all_rights, bytes_on, most_added}
-use Rattle.gft_meter.specs.Views.{word_of, live_view, opening_view, spent, with_add, behind_deal, newcomer, together, shares, IsBounded, AreSums, Shows}
+use Rattle.gft_meter.specs.Adds.{added_on, most_added}
+use Rattle.gft_meter.specs.Views.{word_of, spent, with_add, behind_deal, newcomer, together, shares, IsBounded, AreSums, Shows}
+use Rattle.gft_meter.proofs.AddLemmas.{added_on-append, added_on-cons, added_on-cons_other}
 use Rattle.gft_meter.proofs.SumLemmas.{IsBoundedBy, sum_by-set, sum_by-at, sum_by-bounded, sum_by-alone}
 
 -- ---- sums of one view
@@ -20,18 +21,6 @@ use Rattle.gft_meter.proofs.SumLemmas.{IsBoundedBy, sum_by-set, sum_by-at, sum_b
 -- what was added through a seat on a stripe
 abbrev on : ℕ → View → ℕ
 on stripe v = added_on stripe v.adds
-
-on-with_add : (stripe bytes : ℕ) (v : View) → on stripe (with_add stripe bytes v) ≡ on stripe v + bytes
-on-with_add stripe bytes v =
-    let add : Add = record { stripe = stripe; bytes = bytes } in
-    let mine : bytes_on stripe add ≡ bytes = ap (λ (b : Bool). if b then bytes else 0) (eq-eqb stripe stripe refl) in
-    omega (arith, mine, sum_by-cons (bytes_on stripe) add v.adds)
-
-on-with_add_else : (k stripe bytes : ℕ) (v : View) → k ≢ stripe → on k (with_add stripe bytes v) ≡ on k v
-on-with_add_else k stripe bytes v other =
-    let add : Add = record { stripe = stripe; bytes = bytes } in
-    let none : bytes_on k add ≡ 0 = ap (λ (b : Bool). if b then bytes else 0) (ne_eqb stripe k (λ e. other (sym e))) in
-    omega (arith, none, sum_by-cons (bytes_on k) add v.adds)
 
 live_shares : (v : View) → v.is_live ≡ true → shares v ≡ v.rights + 1
 live_shares v live = ap (λ (b : Bool). if b then v.rights + 1 else 0) live
@@ -72,7 +61,7 @@ adds_here stripes words views id v stripe bytes live below small h at =
     let low : slice_index words place + bytes < 2 ^ 64 = omega (arith, small, all, h.1, h.2 stripe) in
     let next : ℕ = (slice_index words place + bytes) % 2 ^ 64 in
     let whole : next ≡ slice_index words place + bytes = mod-eq_of_lt low in
-    let here = on-with_add stripe bytes v in (
+    let here = added_on-cons stripe bytes v.adds in (
       length-set words place next ∙ h.0,
       (let sums = sum_by-set shares views id v w at in omega (arith, sums, h.1)),
       λ k. dite (ℕ_discrete k stripe)
@@ -83,11 +72,11 @@ adds_here stripes words views id v stripe bytes live below small h at =
           (λ ne.
           let word : slice_index (set words place next) (word_of k) ≡ slice_index words (word_of k) = get_or-set_other words place (word_of k) next 0 (λ e. ne (omega arith)) in
           let sums = sum_by-set (on k) views id v w at in
-          omega (arith, word, sums, on-with_add_else k stripe bytes v ne, h.2 k)),
+          omega (arith, word, sums, added_on-cons_other k stripe bytes v.adds ne, h.2 k)),
       bounded_set views id w h.3
           (λ k. dite (ℕ_discrete k stripe)
           (λ e. subst (λ (j : ℕ). on j w ≤ shares w * most_added) (sym e) (omega (arith, here, small, live_shares v live)))
-          (λ ne. let mine = h.3 id v at k in omega (arith, mine, on-with_add_else k stripe bytes v ne))),
+          (λ ne. let mine = h.3 id v at k in omega (arith, mine, added_on-cons_other k stripe bytes v.adds ne))),
     )
 
 pub adds : (stripes : ℕ) (words : List ℕ) (views : List View) (id : ℕ) (v : View) (stripe bytes place : ℕ) → place ≡ word_of stripe → v.is_live ≡ true → stripe < stripes → on stripe v + bytes ≤ most_added → AreSums stripes words views → get_elem? views id ≡ some v
@@ -145,7 +134,7 @@ joins stripes words views id v other w live too h at apart there =
     let both = together v w in
     let first = set views id both in
     let theirs : get_elem? views other ≡ some w = sym (set_else views id other both apart) ∙ there in
-    let on_both : (k : ℕ) → on k both ≡ on k v + on k w = λ k. sum_by-append (bytes_on k) v.adds w.adds in (
+    let on_both : (k : ℕ) → on k both ≡ on k v + on k w = λ k. added_on-append k v.adds w.adds in (
       h.0,
       (let sums = sum_by-set shares views id v both at in
           let rest = sum_by-set shares first other w spent there in

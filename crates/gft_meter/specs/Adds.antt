@@ -1,4 +1,4 @@
--- What is added on the stripes of a meter, and what contracts see of a meter and of a seat. Stripes are counted from 0.
+-- What is added on the stripes of a meter, counted from 0, and what contracts see of a meter and of a seat.
 use Rattle.std.specs.Prelude.{ℕ, ◌+◌, ◌^◌, ◌==◌, List, [], ◌∷◌, ◌++◌, sum_by, if◌then◌else◌}
 use Rattle.atomic_table.specs.Seated.{TableId}
 use Rattle.gft_meter.specs.declared.view.Add.{Add}
@@ -16,16 +16,20 @@ pub record MeterState : Type 0 where
   pub table : TableId
   pub stripes : ℕ
 
--- a seat: the table of its meter, how many seats it may still split off, and what was added through it and through
--- the seats that were joined into it, in no order that matters
+-- a seat: the table of its meter, how many seats it may still split off, and what was added through it and
+-- through the seats that were joined into it, in no order that matters
 pub record SeatState : Type 0 where
   pub table : TableId
   pub rights : ℕ
   pub adds : List Add
 
--- the rights of the first seat. A seat that has them is the only one that is left: all others were joined into it
+-- the rights of the first seat. A seat that has them is the only one: all others were joined into it
 abbrev pub all_rights : ℕ
 all_rights = 16
+
+-- the first seat of a meter
+abbrev pub first_seat : TableId → SeatState
+first_seat table = record { table = table; rights = all_rights; adds = [] }
 
 -- the most bytes that are added on a stripe through one seat
 abbrev pub most_added : ℕ

@@ -1,5 +1,5 @@
 ghost use Rattle.std.specs.Prelude.{◌≡◌, ◌+◌, ◌-◌, ◌*◌, ◌^◌, ◌<◌, ◌≤◌, ◌++◌, [], IfOk};
-ghost use Rattle.gft_meter.specs.Adds.{added_on, all_rights, joined, most_added, with_bytes};
+ghost use Rattle.gft_meter.specs.Adds.{added_on, all_rights, first_seat, joined, most_added, with_bytes};
 ghost use Rattle.gft_meter.specs.Views.{word_of};
 
 use crate::seat::MeterSeat;
@@ -8,7 +8,7 @@ use gft_base::OutOfMemory;
 use std::alloc::Global;
 use std::marker::Model;
 
-/// A stripe has eight words and counts in the first, so that no two stripes share a line of a processor's cache.
+/// A stripe has eight words and counts in the first: so no two stripes share a line of a processor's cache.
 const WORDS_A_STRIPE: usize = 8;
 
 /// A count of bytes for each stripe of a transfer. Contracts see its table, and how many stripes it has.
@@ -27,14 +27,15 @@ impl Model for Meter {
 
     ghost view = { λ m. record { table = m.table.shared.table_id; stripes = m.stripes } };
 
-    ghost invariant = { λ m. (m.table.shared.key ≡ m.stripes) × (m.table.shared.table_id.words ≡ word_of m.stripes + 1) };
+    ghost invariant = { λ m. (m.table.shared.key ≡ m.stripes)
+        × (m.table.shared.table_id.words ≡ word_of m.stripes + 1) };
 }
 
 impl Meter {
     /// A meter of so many stripes with nothing added, and its first seat, which may split off 16 others.
     pub fn new(alloc: Global, stripes: u16) -> Result<(Meter, MeterSeat), OutOfMemory>
         ensures stripes { IfOk result (λ r. r.0.stripes ≡ stripes) }
-        ensures seat { IfOk result (λ r. r.1 ≡ record { table = r.0.table; rights = all_rights; adds = [] }) }
+        ensures seat { IfOk result (λ r. r.1 ≡ first_seat r.0.table) }
     {
         // One word more, which split and join look at: a meter may have no stripe.
         let words = vec![in alloc; 0u64; word_of(stripes) + 1]?;
@@ -47,7 +48,7 @@ impl Meter {
         requires meter { seat.old.table ≡ self.now.table }
         requires right { 0 < seat.old.rights }
         requires nothing { seat.old.adds ≡ [] }
-        ensures seat { seat.new ≡ record { table = seat.old.table; rights = seat.old.rights - 1; adds = [] } }
+        ensures seat { seat.new ≡ record seat.old { rights = seat.old.rights - 1 } }
         ensures dealt { result ≡ record { table = seat.old.table; rights = 0; adds = [] } }
     {
         let MeterSeat { seat } = seat;
@@ -56,7 +57,7 @@ impl Meter {
         }
     }
 
-    /// Takes another seat into this one: what was added through it, its rights, and the right that it stood for.
+    /// Takes another seat into this one: what was added through it, its rights, and the right it stood for.
     pub fn join(&self, seat: &mut MeterSeat, other: MeterSeat)
         requires meter { (seat.old.table ≡ self.now.table) × (other.table ≡ self.now.table) }
         ensures { seat.new ≡ joined seat.old other }
@@ -79,8 +80,8 @@ impl Meter {
             .fetch_add::<Adds>(seat, word_of(stripe), bytes);
     }
 
-    /// What was added on a stripe, counted from 0, by now. A seat into which all others were joined reads the exact
-    /// sum; while others add, each of their adds counts or doesn't yet.
+    /// What was added on a stripe, counted from 0, by now. A seat into which all others were joined reads the
+    /// exact sum; while others add, each of their adds counts or doesn't yet.
     pub fn read(&self, seat: &mut MeterSeat, stripe: u16) -> u64
         requires meter { seat.old.table ≡ self.now.table }
         requires stripe { stripe < self.now.stripes }

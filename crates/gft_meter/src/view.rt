@@ -9,8 +9,8 @@ pub struct Add {
     pub bytes: u64,
 }
 
-// Whether a seat still adds, how many seats it may split off, and what was added through it and those joined
-// into it, the newest first. No value of it is made.
+// Whether a seat still adds, how many seats it may split off, and what was added through it and those
+// joined into it. No value of it is made.
 pub struct View {
     pub is_live: bool,
     pub rights: u64,
@@ -39,7 +39,8 @@ impl Play<u8, View> for Adds {
     ghost use Rattle.std.specs.Prelude.{◌≡◌, ℕ};
     ghost use Rattle.gft_meter.specs.Views.{word_of, with_add};
 
-    ghost then = { λ s me _ w. (stripe : ℕ) → s.word ≡ word_of stripe → w ≡ (with_add stripe s.first me.0, me.1) };
+    ghost then = { λ s me _ w. (stripe : ℕ) → s.word ≡ word_of stripe
+        → w ≡ (with_add stripe s.first me.0, me.1) };
 }
 
 // A word is at least the seat's sum, and just that if it has all rights.
@@ -49,7 +50,8 @@ impl Play<u8, View> for Reads {
     ghost use Rattle.std.specs.Prelude.{◌≡◌, ℕ};
     ghost use Rattle.gft_meter.specs.Views.{word_of, Shows};
 
-    ghost then = { λ s me n w. (w ≡ me) × ((stripe : ℕ) → s.word ≡ word_of stripe → Shows stripe n me.0) };
+    ghost then = { λ s me n w. (w ≡ me)
+        × ((stripe : ℕ) → s.word ≡ word_of stripe → Shows stripe n me.0) };
 }
 
 // A seat comes off another, and goes into one.

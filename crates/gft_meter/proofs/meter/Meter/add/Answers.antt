@@ -1,4 +1,4 @@
-use Rattle.std.proofs.Common.{◌≡◌, ◌<◌, [], refl, sym, ap, ◌∙◌, subst, arith}
+use Rattle.std.proofs.Common.{◌≡◌, ◌<◌, [], sym, ap, ◌∙◌, subst, arith}
 use Rattle.atomic_table.specs.Table.{keeps}
 use Rattle.gft_meter.specs.Adds.{SeatState, added_on, with_bytes}
 use Rattle.gft_meter.specs.Views.{live_view, with_add}

@@ -1,4 +1,4 @@
-use Rattle.std.proofs.Common.{◌≡◌, ◌<◌, refl, sym, ap, ◌∙◌, subst, arith}
+use Rattle.std.proofs.Common.{◌<◌, refl, sym, ap, ◌∙◌, subst, arith}
 use Rattle.atomic_table.specs.Table.{keeps}
 use Rattle.gft_meter.proofs.StepLemmas.{shows, stays}
 use Rattle.gft_meter.proofs.meter.Meter.read.Goals as goal
