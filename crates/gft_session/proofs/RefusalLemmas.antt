@@ -9,13 +9,24 @@ use Rattle.gft_command.specs.declared.error.CommandError.TheVariants as unread
 use Rattle.gft_outside.specs.Words.{LaneState, LinkState, NotHandedOut}
 use Rattle.gft_outside.specs.declared.link.LinkError.{LinkError}
 use Rattle.gft_outside.specs.declared.link.LinkError.TheVariants as errors
+use Rattle.gft_text.specs.declared.name.NameError.{NameError}
+use Rattle.gft_text.specs.declared.name.NameError.TheVariants as name_errors
+use Rattle.gft_book.specs.declared.usage.Use.{Use}
+use Rattle.gft_book.specs.declared.usage.Use.TheVariants as uses
+use Rattle.gft_library.specs.declared.answer.Word.{Word}
+use Rattle.gft_library.specs.declared.answer.Word.TheVariants as words
+use Rattle.gft_library.specs.declared.error.LibraryError.{LibraryError}
+use Rattle.gft_library.specs.declared.error.LibraryError.TheVariants as errors_of
+use Rattle.gft_library.specs.Words.{LibraryCall, Removes, Sizes}
 use Rattle.gft_session.specs.declared.reply_kind.ReplyKind.{ReplyKind}
 use Rattle.gft_session.specs.declared.reply_kind.ReplyKind.TheVariants as kinds
 use Rattle.gft_session.specs.declared.settings.Login.{Login}
 use Rattle.gft_session.specs.declared.settings.Login.TheVariants as logins
+use Rattle.gft_session.specs.Asking.{AsksLibrary, name_reply, word_reply}
+use Rattle.gft_session.specs.Brought.{Brought}
 use Rattle.gft_session.specs.Conversation.{Leads, RoseBy, Turn, refusals, refusals_in}
 use Rattle.gft_session.specs.Listeners.{Returns}
-use Rattle.gft_session.specs.Replies.{reply_of, unread_reply}
+use Rattle.gft_session.specs.Replies.{busy_reply, library_reply, reply_of, unread_reply}
 use Rattle.gft_session.specs.Saying.{AnswersListen, IsPassive, IsStriped, Says, SaysAndReturns, folder_reply, is_root, mode_reply, pass_reply, protection_reply, refused_reply, structure_reply, type_reply}
 use Rattle.gft_session.specs.Settings.{Around, State, World, is_in}
 use Rattle.gft_session.specs.Table.{AnswersLine, Row, is_free}
@@ -36,10 +47,21 @@ quiet_unread unread.MissingParameter = refl
 quiet_unread unread.BadParameter = refl
 quiet_unread unread.OutOfMemory = refl
 
+quiet_busy : (found : Use) → refusals (busy_reply found ∷ []) ≡ 0
+unfolding busy_reply
+quiet_busy uses.Storing = refl
+quiet_busy _ = refl
+
+quiet_library : (why : LibraryError) → Quiet (kinds.Refused why)
+unfolding reply_of library_reply
+quiet_library (errors_of.Busy found) = quiet_busy found
+quiet_library _ = refl
+
 quiet : (kind : ReplyKind) → is_loud kind ≡ false → Quiet kind
 unfolding reply_of is_loud
 quiet kinds.CannotListen loud = absurd (cc loud)
 quiet (kinds.Unread why) loud = quiet_unread why
+quiet (kinds.Refused why) loud = quiet_library why
 quiet _ loud = refl
 
 quiet_pass : (login : Login) → Quiet (pass_reply login)
@@ -85,21 +107,21 @@ returned_rose : {L X : Type 0} (lane : L → LaneState) (a b : LinkState L X) (l
 returned_rose lane a b [] same = rw same (omega arith)
 returned_rose lane a b (first ∷ others) returns = omega (arith, returns.1.faults, returned_rose lane returns.0 b others returns.2)
 
-says_rose : {L X : Type 0} (kind : ReplyKind) (after : State L) (old : World L X) (replies : List Reply) (new : World L X) → Quiet kind → Says kind after old replies new → RoseBy (refusals replies) old.link.faults new.link.faults
-says_rose kind after old replies new quiet_kind row = rw (row.reply, quiet_kind, row.link) (omega arith)
+says_rose : {L X : Type 0} (kind : ReplyKind) (after : State L) (old : World L X) (brought : Brought) (new : World L X) → Quiet kind → Says kind after old brought new → RoseBy (refusals brought.replies) old.link.faults new.link.faults
+says_rose kind after old brought new quiet_kind row = rw (row.reply, quiet_kind, row.link) (omega arith)
 
-returns_rose : {L X : Type 0} (lane : L → LaneState) (kind : ReplyKind) (after : State L) (old : World L X) (replies : List Reply) (new : World L X) → Quiet kind → SaysAndReturns lane kind after old replies new → RoseBy (refusals replies) old.link.faults new.link.faults
-returns_rose lane kind after old replies new quiet_kind row = rw (row.reply, quiet_kind) (returned_rose lane old.link new.link _ row.returned)
+returns_rose : {L X : Type 0} (lane : L → LaneState) (kind : ReplyKind) (after : State L) (old : World L X) (brought : Brought) (new : World L X) → Quiet kind → SaysAndReturns lane kind after old brought new → RoseBy (refusals brought.replies) old.link.faults new.link.faults
+returns_rose lane kind after old brought new quiet_kind row = rw (row.reply, quiet_kind) (returned_rose lane old.link new.link _ row.returned)
 
 refused_rose : {L X : Type 0} (why : LinkError) (old new : LinkState L X) → NotHandedOut old new why → RoseBy (refusals (reply_of (refused_reply why) ∷ [])) old.faults new.faults
 unfolding is_loud
 refused_rose errors.Failed old new refused = omega (arith, at_most_one (reply_of kinds.CannotListen), refused.rose)
 refused_rose errors.OutOfMemory old new same = rw (quiet kinds.OutOfMemory refl, same) (omega arith)
 
-listen_rose : {L X : Type 0} (lane : L → LaneState) (stripes : ℕ) (IsNamed : List HostPort → ReplyKind → Type 0) (old : World L X) (replies : List Reply) (new : World L X) →
-    ((places : List HostPort) (kind : ReplyKind) → IsNamed places kind → Quiet kind) → AnswersListen lane stripes IsNamed old replies new → RoseBy (refusals replies) old.link.faults new.link.faults
-listen_rose lane stripes IsNamed old replies new named (inl refused) = rw refused.reply (refused_rose refused.why old.link new.link refused.same.refused)
-listen_rose lane stripes IsNamed old replies new named (inr row) =
+listen_rose : {L X : Type 0} (lane : L → LaneState) (stripes : ℕ) (IsNamed : List HostPort → ReplyKind → Type 0) (old : World L X) (brought : Brought) (new : World L X) →
+    ((places : List HostPort) (kind : ReplyKind) → IsNamed places kind → Quiet kind) → AnswersListen lane stripes IsNamed old brought new → RoseBy (refusals brought.replies) old.link.faults new.link.faults
+listen_rose lane stripes IsNamed old brought new named (inl refused) = rw refused.reply (refused_rose refused.why old.link new.link refused.same.refused)
+listen_rose lane stripes IsNamed old brought new named (inr row) =
     let back = returned_rose lane row.listens.mid new.link _ row.listens.returned in
     rw (row.reply, named row.places row.kind row.named) (omega (arith, row.listens.handed_out.faults, back))
 
@@ -111,48 +133,68 @@ striped_quiet : (places : List HostPort) (kind : ReplyKind) → IsStriped places
 unfolding is_loud
 striped_quiet places kind named = rw named.2 (quiet (kinds.Striped named.0) refl)
 
-row_rose : {L X : Type 0} (around : Around L) (command : Command) (old : World L X) (replies : List Reply) (new : World L X) → Row around command old replies new → RoseBy (refusals replies) old.link.faults new.link.faults
+quiet_word : (word : Word) → Quiet (word_reply word)
 unfolding is_loud
-row_rose around (commands.User _) old replies new row = says_rose _ _ _ _ _ (quiet kinds.PasswordPlease refl) row
-row_rose around (commands.Pass _) old replies new row = says_rose _ _ _ _ _ (quiet_pass old.state.login) row
-row_rose around commands.Quit old replies new row = says_rose _ _ _ _ _ (quiet kinds.Goodbye refl) row
-row_rose around commands.Noop old replies new row = says_rose _ _ _ _ _ (quiet kinds.Done refl) row
-row_rose around commands.Feat old replies new row = says_rose _ _ _ _ _ (quiet kinds.Features refl) row
-row_rose around (commands.SetType letter) old replies new row = says_rose _ _ _ _ _ (quiet_type letter) row
-row_rose around (commands.SetMode letter) old replies new row = says_rose _ _ _ _ _ (quiet_mode letter) row
-row_rose around (commands.SetStru letter) old replies new row = says_rose _ _ _ _ _ (quiet_structure letter) row
-row_rose around (commands.Dcau letter) old replies new row = says_rose _ _ _ _ _ (quiet_protection letter) row
-row_rose around (commands.Sbuf _) old replies new row = says_rose _ _ _ _ _ (quiet kinds.BufferNoted refl) row
-row_rose around (commands.Allo _) old replies new row = says_rose _ _ _ _ _ (quiet kinds.AlloNotNeeded refl) row
-row_rose around (commands.Opts options) old replies new row = says_rose _ _ _ _ _ (quiet kinds.OptionsSet refl) row
-row_rose around commands.Pwd old replies new row = says_rose _ _ _ _ _ (quiet kinds.OnlyFolder refl) row
-row_rose around (commands.Cwd path) old replies new row = says_rose _ _ _ _ _ (quiet_folder path) row
-row_rose around commands.Pasv old replies new row = listen_rose around.lane 1 IsPassive old replies new passive_quiet row
-row_rose around commands.Spas old replies new row = listen_rose around.lane around.stripes IsStriped old replies new striped_quiet row
-row_rose around (commands.Port at) old replies new row = returns_rose around.lane _ _ _ _ _ (quiet (kinds.TargetsSet 1) refl) row
-row_rose around (commands.Spor places) old replies new row = returns_rose around.lane _ _ _ _ _ (quiet (kinds.TargetsSet (length places)) refl) row
-row_rose around (commands.Rest list) old replies new row = says_rose _ _ _ _ _ (quiet kinds.RestNoted refl) row
-row_rose around (commands.Stor _) old replies new row = says_rose _ _ _ _ _ (quiet kinds.NotBuilt refl) row
-row_rose around (commands.Esto _) old replies new row = says_rose _ _ _ _ _ (quiet kinds.NotBuilt refl) row
-row_rose around (commands.Retr _) old replies new row = says_rose _ _ _ _ _ (quiet kinds.NotBuilt refl) row
-row_rose around (commands.Eret _) old replies new row = says_rose _ _ _ _ _ (quiet kinds.NotBuilt refl) row
-row_rose around (commands.Size _) old replies new row = says_rose _ _ _ _ _ (quiet kinds.NotBuilt refl) row
-row_rose around (commands.Dele _) old replies new row = says_rose _ _ _ _ _ (quiet kinds.NotBuilt refl) row
-row_rose around commands.Abor old replies new row = says_rose _ _ _ _ _ (quiet kinds.NoTransfer refl) row
+quiet_word (words.Length len) = quiet (kinds.Length len) refl
+quiet_word words.Removed = quiet kinds.Deleted refl
+quiet_word (words.Stored len) = quiet kinds.Complete refl
+quiet_word (words.Part len) = quiet kinds.PartStored refl
+quiet_word (words.No why) = quiet (kinds.Refused why) refl
+
+quiet_name : (why : NameError) → Quiet (name_reply why)
+unfolding is_loud
+quiet_name (name_errors.BadName at) = quiet kinds.BadName refl
+quiet_name name_errors.OutOfMemory = quiet kinds.OutOfMemory refl
+
+asks_quiet : (call : LibraryCall) (path : List ℕ) (brought : Brought) → AsksLibrary call path brought → refusals brought.replies ≡ 0
+asks_quiet call path brought (inl row) = rw row.gives (quiet_word row.word)
+asks_quiet call path brought (inr row) = rw row.gives (quiet_name row.why)
+
+asks_rose : {L X : Type 0} (call : LibraryCall) (path : List ℕ) (old : World L X) (brought : Brought) (new : World L X) → AsksLibrary call path brought × (new ≡ old) → RoseBy (refusals brought.replies) old.link.faults new.link.faults
+asks_rose call path old brought new row = rw (asks_quiet call path brought row.0, row.1) (omega arith)
+
+row_rose : {L X : Type 0} (around : Around L) (command : Command) (old : World L X) (brought : Brought) (new : World L X) → Row around command old brought new → RoseBy (refusals brought.replies) old.link.faults new.link.faults
+unfolding is_loud
+row_rose around (commands.User _) old brought new row = says_rose _ _ _ _ _ (quiet kinds.PasswordPlease refl) row
+row_rose around (commands.Pass _) old brought new row = says_rose _ _ _ _ _ (quiet_pass old.state.login) row
+row_rose around commands.Quit old brought new row = says_rose _ _ _ _ _ (quiet kinds.Goodbye refl) row
+row_rose around commands.Noop old brought new row = says_rose _ _ _ _ _ (quiet kinds.Done refl) row
+row_rose around commands.Feat old brought new row = says_rose _ _ _ _ _ (quiet kinds.Features refl) row
+row_rose around (commands.SetType letter) old brought new row = says_rose _ _ _ _ _ (quiet_type letter) row
+row_rose around (commands.SetMode letter) old brought new row = says_rose _ _ _ _ _ (quiet_mode letter) row
+row_rose around (commands.SetStru letter) old brought new row = says_rose _ _ _ _ _ (quiet_structure letter) row
+row_rose around (commands.Dcau letter) old brought new row = says_rose _ _ _ _ _ (quiet_protection letter) row
+row_rose around (commands.Sbuf _) old brought new row = says_rose _ _ _ _ _ (quiet kinds.BufferNoted refl) row
+row_rose around (commands.Allo _) old brought new row = says_rose _ _ _ _ _ (quiet kinds.AlloNotNeeded refl) row
+row_rose around (commands.Opts options) old brought new row = says_rose _ _ _ _ _ (quiet kinds.OptionsSet refl) row
+row_rose around commands.Pwd old brought new row = says_rose _ _ _ _ _ (quiet kinds.OnlyFolder refl) row
+row_rose around (commands.Cwd path) old brought new row = says_rose _ _ _ _ _ (quiet_folder path) row
+row_rose around commands.Pasv old brought new row = listen_rose around.lane 1 IsPassive old brought new passive_quiet row
+row_rose around commands.Spas old brought new row = listen_rose around.lane around.stripes IsStriped old brought new striped_quiet row
+row_rose around (commands.Port at) old brought new row = returns_rose around.lane _ _ _ _ _ (quiet (kinds.TargetsSet 1) refl) row
+row_rose around (commands.Spor places) old brought new row = returns_rose around.lane _ _ _ _ _ (quiet (kinds.TargetsSet (length places)) refl) row
+row_rose around (commands.Rest list) old brought new row = says_rose _ _ _ _ _ (quiet kinds.RestNoted refl) row
+row_rose around (commands.Stor _) old brought new row = says_rose _ _ _ _ _ (quiet kinds.NotBuilt refl) row
+row_rose around (commands.Esto _) old brought new row = says_rose _ _ _ _ _ (quiet kinds.NotBuilt refl) row
+row_rose around (commands.Retr _) old brought new row = says_rose _ _ _ _ _ (quiet kinds.NotBuilt refl) row
+row_rose around (commands.Eret _) old brought new row = says_rose _ _ _ _ _ (quiet kinds.NotBuilt refl) row
+row_rose around (commands.Size path) old brought new row = asks_rose Sizes path old brought new row
+row_rose around (commands.Dele path) old brought new row = asks_rose Removes path old brought new row
+row_rose around commands.Abor old brought new row = says_rose _ _ _ _ _ (quiet kinds.NoTransfer refl) row
 
 by_test : (b : Bool) (P Q R : Type 0) → (P → R) → (Q → R) → MatchBool b P Q → R
 by_test true P Q R p q row = p row
 by_test false P Q R p q row = q row
 
-line_rose : {L X : Type 0} (around : Around L) (line : List ℕ) (old : World L X) (replies : List Reply) (new : World L X) → AnswersLine around line old replies new → RoseBy (refusals replies) old.link.faults new.link.faults
+line_rose : {L X : Type 0} (around : Around L) (line : List ℕ) (old : World L X) (brought : Brought) (new : World L X) → AnswersLine around line old brought new → RoseBy (refusals brought.replies) old.link.faults new.link.faults
 unfolding is_loud
-line_rose around line old replies new (inl reads) =
+line_rose around line old brought new (inl reads) =
     by_test (is_free reads.command || is_in old.state.login) _ _ _
-    (λ row. row_rose around reads.command old replies new row) (λ first. says_rose _ _ _ _ _ (quiet kinds.LogInFirst refl) first) reads.answers
-line_rose around line old replies new (inr refuses) = says_rose _ _ _ _ _ (quiet_unread refuses.why) refuses.says
+    (λ row. row_rose around reads.command old brought new row) (λ first. says_rose _ _ _ _ _ (quiet kinds.LogInFirst refl) first) reads.answers
+line_rose around line old brought new (inr refuses) = says_rose _ _ _ _ _ (quiet_unread refuses.why) refuses.says
 
 -- the replies of code 425 are at most as many as the link's count rose by
 pub leads_rose : {L X : Type 0} (around : Around L) (start : World L X) (turns : List Turn) (now : World L X) → Leads around start turns now → RoseBy (refusals_in turns) start.link.faults now.link.faults
 leads_rose around start [] now same = rw same (omega arith)
 leads_rose around start (turn ∷ older) now leads =
-    omega (arith, leads_rose around start older leads.0 leads.1, line_rose around turn.line leads.0 turn.replies now leads.2)
+    omega (arith, leads_rose around start older leads.0 leads.1, line_rose around turn.line leads.0 turn.brought now leads.2)

@@ -1,5 +1,5 @@
 -- The texts of replies have no LF, and room in a line.
-use Rattle.std.proofs.Common.{◌≡◌, ℕ, ◌*◌, ◌/◌, ◌%◌, ◌<◌, ◌≤◌, ◌^◌, Bool, true, false, not, ◌&&◌, eqb, List, [], ◌∷◌, ◌++◌, length, length-append, map, refl, ◌∙◌, lit<, arith}
+use Rattle.std.proofs.Common.{◌≡◌, ℕ, ◌+◌, ◌*◌, ◌/◌, ◌%◌, ◌<◌, ◌≤◌, ◌^◌, Bool, true, false, not, ◌&&◌, eqb, List, [], ◌∷◌, ◌++◌, length, length-append, map, refl, ◌∙◌, lit<, arith}
 use Rattle.std.specs.Prelude.{decimal}
 use Rattle.std.specs.List.{AllByRecursion, AllZip, join_with_byte, list_all}
 use Rattle.std.proofs.lemmas.Bool.{lt-ltb, ltb-true}
@@ -51,16 +51,32 @@ fits reply least most some few test = FitsReply-short reply least most some few 
 pub one_more_line : (lines : List (List ℕ)) (text : List ℕ) → list_all is_line lines ≡ true → is_line text ≡ true → list_all is_line (lines ++ text ∷ []) ≡ true
 one_more_line lines text all one = list_all-append is_line lines (text ∷ []) ∙ both _ _ all (both _ _ one refl)
 
--- ---- numbers and addresses
-
 decimal-short : (n : ℕ) → n < 2 ^ 64 → length (decimal n) ≤ 20
 decimal-short n below = length-decimal-le 20 n (omega arith) (omega arith) below
 
--- a number, and a literal text behind it
-pub number_line : (n : ℕ) (text : List ℕ) → n < 2 ^ 64 → list_all (λ b. not (eqb b line_feed)) text ≡ true → length text ≤ 100 → is_line (decimal n ++ text) ≡ true
-number_line n text below test short =
-    line_from (decimal n ++ text) (All-append (λ b. eqb b line_feed ≡ false) (decimal n) text (decimal_lacks line_feed n (lit< tt) below) (literal_lacks line_feed text test))
-    (omega (arith, length-append (decimal n) text, decimal-short n below, short))
+-- ---- pieces of a line
+
+-- a text without an LF, of at most so many bytes
+pub record IsPiece (text : List ℕ) (most : ℕ) : Type 0 where
+  pub lacks : Lacks line_feed text
+  pub short : length text ≤ most
+
+pub literal : (text : List ℕ) (most : ℕ) → list_all (λ b. not (eqb b line_feed)) text ≡ true → length text ≤ most → IsPiece text most
+literal text most test short = record { lacks = literal_lacks line_feed text test; short = short }
+
+pub number : (n : ℕ) → n < 2 ^ 64 → IsPiece (decimal n) 20
+number n below = record { lacks = decimal_lacks line_feed n (lit< tt) below; short = decimal-short n below }
+
+pub joined : (first next : List ℕ) (m n : ℕ) → IsPiece first m → IsPiece next n → IsPiece (first ++ next) (m + n)
+joined first next m n a b = record {
+  lacks = All-append (λ b. eqb b line_feed ≡ false) first next a.lacks b.lacks;
+  short = omega (arith, length-append first next, a.short, b.short);
+}
+
+pub short_line : (text : List ℕ) (most : ℕ) → IsPiece text most → most < 1000 → is_line text ≡ true
+short_line text most piece room = line_from text piece.lacks (omega (arith, piece.short, room))
+
+-- ---- addresses
 
 each_byte : (parts : List (List ℕ)) (ns : List ℕ) → AllZip IsByte parts ns → AllByRecursion (λ n. n < 256) ns
 each_byte [] [] all = tt
@@ -86,15 +102,5 @@ address-short : (at : HostPort) (text : List ℕ) → IsHostPort text at → len
 address-short at text is =
     omega (arith, joined-short (numbers_of at) (each_byte _ _ is.numbers), length-append at.host (at.port / 256 ∷ at.port % 256 ∷ []), is.host)
 
--- an address is a line
-pub address_line : (at : HostPort) (text : List ℕ) → IsHostPort text at → is_line (host_port_text at) ≡ true
-address_line at text is = line_from _ (address-lacks at text is) (omega (arith, address-short at text is))
-
--- and so it is between literal texts
-pub address_between : (at : HostPort) (text front behind : List ℕ) → IsHostPort text at → list_all (λ b. not (eqb b line_feed)) front ≡ true → list_all (λ b. not (eqb b line_feed)) behind ≡ true →
-    length front ≤ 100 → length behind ≤ 100 → is_line (front ++ host_port_text at ++ behind) ≡ true
-address_between at text front behind is front_test behind_test front_short behind_short =
-    let P : ℕ → Type 0 = λ b. eqb b line_feed ≡ false in
-    line_from (front ++ host_port_text at ++ behind)
-    (All-append P (front ++ host_port_text at) behind (All-append P front (host_port_text at) (literal_lacks line_feed front front_test) (address-lacks at text is)) (literal_lacks line_feed behind behind_test))
-    (omega (arith, length-append (front ++ host_port_text at) behind, length-append front (host_port_text at), address-short at text is, front_short, behind_short))
+pub address : (at : HostPort) (text : List ℕ) → IsHostPort text at → IsPiece (host_port_text at) 126
+address at text is = record { lacks = address-lacks at text is; short = address-short at text is }

@@ -11,6 +11,7 @@ use Rattle.gft_reply.specs.declared.reply.Reply.{Reply}
 use Rattle.gft_reply.specs.Words.{reply_text}
 use Rattle.gft_command.specs.Words.{IsCommand}
 use Rattle.gft_command.specs.declared.command.Command.TheVariants as commands
+use Rattle.gft_library.specs.Words.{NamedWord}
 use Rattle.gft_outside.specs.Words.{ControlInput, ControlState, Hears, LinkState, said}
 use Rattle.gft_session.specs.declared.config.Config.{Config}
 use Rattle.gft_session.specs.declared.reply_kind.ReplyKind.TheVariants as kinds
@@ -22,7 +23,8 @@ use Rattle.gft_session.specs.Hearing.{IsPatient, IsReason, overlong_at, taken_at
 use Rattle.gft_session.specs.Listeners.{Returns}
 use Rattle.gft_session.specs.Replies.{reply_of, text_of_all}
 use Rattle.gft_session.specs.Settings.{Around, World, held, start_world}
-use Rattle.gft_session.specs.Steps.{Gives}
+use Rattle.gft_session.specs.Brought.{Brought, Output}
+use Rattle.gft_session.specs.Steps.{AreBefore, Gives, Tallies, list_of}
 use Rattle.gft_session.specs.Table.{AnswersLine}
 use Rattle.gft_opts.specs.declared.TheConstants.{MAX_TARGETS}
 
@@ -30,15 +32,16 @@ use Rattle.gft_opts.specs.declared.TheConstants.{MAX_TARGETS}
 pub record IsConfig (config : Config) : Type 0 where
   pub some : 1 ≤ config.stripes
   pub few : config.stripes ≤ MAX_TARGETS
+  pub marker : 1 ≤ config.marker_bytes
   pub idle : 1 ≤ config.idle
 
 -- ---- turns
 
--- a line, what was heard of the control for it, and the replies that it brought
+-- a line, what was heard of the control for it, and what it brought
 pub record Turn : Type 0 where
   pub line : List ℕ
   pub inputs : List ControlInput
-  pub replies : List Reply
+  pub brought : Brought
 
 abbrev pub inputs_of : List Turn → List ControlInput
 inputs_of [] = []
@@ -51,13 +54,18 @@ lines_of (turn ∷ older) = lines_of older ++ Line turn.line ∷ []
 -- the bytes of the replies
 abbrev pub replies_in : List Turn → List ℕ
 replies_in [] = []
-replies_in (turn ∷ older) = replies_in older ++ text_of_all turn.replies
+replies_in (turn ∷ older) = replies_in older ++ text_of_all turn.brought.replies
+
+-- the answers of the library that they give, the newest first
+abbrev pub answers_in : List Turn → List NamedWord
+answers_in [] = []
+answers_in (turn ∷ older) = list_of turn.brought.answer ++ answers_in older
 
 -- the table leads from the world at the start to the one now, line by line
 abbrev pub Leads : {L X : Type 0} → Around L → World L X → List Turn → World L X → Type 0
 Leads around start [] now = now ≡ start
 Leads around start (turn ∷ older) now =
-    (mid : World _ _) × Leads around start older mid × AnswersLine around turn.line mid turn.replies now
+    (mid : World _ _) × Leads around start older mid × AnswersLine around turn.line mid turn.brought now
 
 abbrev pub ArePatient : ℕ → List Turn → Type 0
 ArePatient idle [] = Unit {0}
@@ -88,7 +96,7 @@ refusals (reply ∷ replies) = (if reply.code == 425 then 1 else 0) + refusals r
 
 abbrev pub refusals_in : List Turn → ℕ
 refusals_in [] = 0
-refusals_in (turn ∷ older) = refusals turn.replies + refusals_in older
+refusals_in (turn ∷ older) = refusals turn.brought.replies + refusals_in older
 
 -- the count rose by so many, or stands at its type's end
 abbrev pub RoseBy : ℕ → ℕ → ℕ → Type 0
@@ -119,6 +127,23 @@ pub record IsCut (end : SessionEnd) (turns : List Turn) (bytes : List ℕ) : Typ
   pub front : IsPartOf bytes (due end turns)
   pub has : IsPartOf (due_before_last turns) bytes
 
+-- ---- what a tally takes
+
+-- the last line's last reply was not put
+abbrev pub LacksReply : List Turn → List ℕ → Type 0
+LacksReply [] bytes = bytes ≡ []
+LacksReply (turn ∷ older) bytes =
+    (part : List ℕ) × (bytes ≡ (greeting ++ replies_in older) ++ part) × AreBefore part turn.brought.replies
+
+-- the answers of all replies that were put; and one more only where a put failed
+abbrev pub AreTaken : SessionEnd → List Turn → List ℕ → List NamedWord → Type 0
+AreTaken ends.OutFault turns bytes answers =
+    (answers ≡ answers_in turns) ⊎ (answers ≡ answers_in (before_last turns))
+AreTaken ends.OutOfMemory turns bytes answers =
+    ((bytes ≡ greeting ++ replies_in turns) × (answers ≡ answers_in turns))
+    ⊎ (LacksReply turns bytes × (answers ≡ answers_in (before_last turns)))
+AreTaken _ turns bytes answers = answers ≡ answers_in turns
+
 -- ---- ends
 
 -- a session that ended so was cut off: a put failed, or memory was refused
@@ -145,7 +170,7 @@ HasFault _ heard_before heard_now put_before put_now =
 
 -- the lines of a session and their replies, from its start to its end
 pub record Converses {L X : Type 0} (around : Around L) (idle : ℕ) (result : SessionEnd)
-    (start last : World L X) (was now : ControlState) (old new : Option (List ℕ)) : Type 0 where
+    (start last : World L X) (was now : ControlState) (old new : Output) : Type 0 where
   pub turns : List Turn
   -- what was heard behind the last line
   pub behind : List ControlInput
@@ -160,14 +185,18 @@ pub record Converses {L X : Type 0} (around : Around L) (idle : ℕ) (result : S
   -- the 425 lines are at most as many as the link's count rose by
   pub refused : RoseBy (refusals_in turns) start.link.faults last.link.faults
   pub cause : IsCauseOf end idle turns behind now
-  pub put : Appends old new bytes
+  pub put : Appends old.put new.put bytes
   -- all that is due was put, or the session was cut off
   pub whole : ¬ IsCutOff result → (end ≡ result) × (bytes ≡ due result turns)
   pub cut : IsCutOff result → IsCut end turns bytes
+  -- what the tally took
+  pub answers : List NamedWord
+  pub tallied : Tallies old.taken new.taken answers
+  pub taken : AreTaken result turns bytes answers
 
 -- a whole session; the lanes that are left at its end are given back
 pub record IsSession {L X : Type 0} (around : Around L) (idle : ℕ) (result : SessionEnd)
-    (old_link new_link : LinkState L X) (was now : ControlState) (old new : Option (List ℕ)) : Type 0 where
+    (old_link new_link : LinkState L X) (was now : ControlState) (old new : Output) : Type 0 where
   pub last : World L X
   pub talk : Converses around idle result (start_world old_link) last was now old new
   pub returned : Returns around.lane last.link new_link (held last.state)
@@ -178,7 +207,7 @@ pub record IsSession {L X : Type 0} (around : Around L) (idle : ℕ) (result : S
 
 -- a session that goes on: every line heard was answered, and the reader stands behind the last
 pub record SoFar {L X : Type 0} (around : Around L) (idle : ℕ) (start mid : World L X)
-    (was now : ControlState) (reader : Held) (old new : Option (List ℕ)) : Type 0 where
+    (was now : ControlState) (reader : Held) (old new : Output) : Type 0 where
   pub turns : List Turn
   pub heard : Hears (inputs_of turns) was now
   pub lines : (later : List ℕ) →
@@ -186,13 +215,14 @@ pub record SoFar {L X : Type 0} (around : Around L) (idle : ℕ) (start mid : Wo
   pub settled : lines_to_come reader [] ≡ []
   pub patient : ArePatient idle turns
   pub leads : Leads around start turns mid
-  pub put : Appends old new (greeting ++ replies_in turns)
+  pub put : Appends old.put new.put (greeting ++ replies_in turns)
+  pub tallied : Tallies old.taken new.taken (answers_in turns)
   pub no_quit : HasNoQuit turns
 
 -- one line was answered, which tells whether the session goes on
 pub record AnswersOne {L X : Type 0} (around : Around L) (line : List ℕ) (old now : World L X)
-    (result : Result Bool Stopped) (was put : Option (List ℕ)) : Type 0 where
-  pub gives : Gives (λ replies. AnswersLine around line old replies now) result was put
+    (result : Result Bool Stopped) (before after : Output) : Type 0 where
+  pub gives : Gives (λ brought. AnswersLine around line old brought now) result before after
   pub goes_on : IfOk result (λ goes_on. MatchBool goes_on (¬ IsQuit line) (IsQuit line))
 
 abbrev pub end_of : Stopped → SessionEnd
@@ -211,6 +241,7 @@ pub record Closes (end result : SessionEnd) (old new : Option (List ℕ)) : Type
   pub put : Appends old new part
   pub is_part : IsPartOf part (closing end)
   pub becomes : ((result ≡ end) × (part ≡ closing end)) ⊎ (IsCutOff result × HasClosing end)
+  pub none : result ≡ ends.OutOfMemory → part ≡ []
 
 -- the sink's count at the end: it rose where the put failed, and stays else
 abbrev pub HasClosed : SessionEnd → SessionEnd → ℕ → ℕ → Type 0

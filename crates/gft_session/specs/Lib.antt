@@ -5,5 +5,7 @@ pub mod Saying
 pub mod Table
 pub mod Hearing
 pub mod Steps
+pub mod Asking
+pub mod Brought
 pub mod Conversation
 pub mod Words

@@ -10,6 +10,10 @@ use Rattle.gft_reply.specs.Words.{reply_text}
 use Rattle.gft_opts.specs.declared.TheConstants.{MAX_TARGETS}
 use Rattle.gft_command.specs.declared.error.CommandError.{CommandError}
 use Rattle.gft_command.specs.declared.error.CommandError.TheVariants as unread
+use Rattle.gft_book.specs.declared.usage.Use.{Use}
+use Rattle.gft_book.specs.declared.usage.Use.TheVariants as uses
+use Rattle.gft_library.specs.declared.error.LibraryError.{LibraryError}
+use Rattle.gft_library.specs.declared.error.LibraryError.TheVariants as refusals
 use Rattle.gft_session.specs.declared.reply_kind.ReplyKind.{ReplyKind}
 use Rattle.gft_session.specs.declared.reply_kind.ReplyKind.TheVariants as kinds
 
@@ -27,6 +31,25 @@ unread_reply unread.UnknownVerb = line 500 (codes "Unknown command.")
 unread_reply unread.MissingParameter = line 501 (codes "Parameter missing.")
 unread_reply unread.BadParameter = line 501 (codes "Bad parameter.")
 unread_reply unread.OutOfMemory = line 455 (codes "Out of memory.")
+
+-- a library that refuses
+unfoldable pub busy_reply : Use → Reply
+busy_reply uses.Storing = line 450 (codes "Busy: storing.")
+busy_reply _ = line 450 (codes "Busy: reading.")
+
+unfoldable pub library_reply : LibraryError → Reply
+library_reply (refusals.Busy found) = busy_reply found
+library_reply (refusals.Damaged damage) = line 451 (codes "Journal damaged.")
+library_reply (refusals.CompleteAlready len) = line 550 (codes "Complete already.")
+library_reply (refusals.NotInJournal missing) =
+    line 554 (codes "REST names " ++ (decimal missing.start ++ (codes "-" ++ (decimal missing.end
+    ++ codes ", which is not stored."))))
+library_reply refusals.NoSuch = line 550 (codes "No such file.")
+library_reply refusals.Incomplete = line 550 (codes "Not complete.")
+library_reply refusals.TooManyNames = line 452 (codes "Too many names: 65536.")
+library_reply refusals.ShelfFailed = line 451 (codes "Drive failed.")
+library_reply refusals.OutOfMemory = line 455 (codes "Out of memory.")
+library_reply refusals.DriveFailed = line 451 (codes "Drive failed.")
 
 abbrev pub features : List (List ℕ)
 features =
@@ -65,6 +88,12 @@ reply_of (kinds.Striped places) =
     lines_from 229 (codes "Entering Striped Passive Mode.") (map host_port_text places.items) (codes "End")
 reply_of (kinds.TargetsSet count) = line 200 (decimal count ++ codes " targets set.")
 reply_of kinds.RestNoted = line 350 (codes "Restart list noted.")
+reply_of (kinds.Length len) = line 213 (decimal len)
+reply_of kinds.Deleted = line 250 (codes "Deleted.")
+reply_of kinds.BadName = line 553 (codes "Bad name.")
+reply_of (kinds.Refused why) = library_reply why
+reply_of kinds.Complete = line 226 (codes "Transfer complete.")
+reply_of kinds.PartStored = line 226 (codes "Part stored.")
 reply_of kinds.NotBuilt = line 504 (codes "Not built.")
 reply_of kinds.NoTransfer = line 225 (codes "No transfer in progress.")
 reply_of kinds.OutOfMemory = line 455 (codes "Out of memory.")

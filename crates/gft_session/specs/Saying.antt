@@ -3,7 +3,6 @@ use Rattle.std.specs.Prelude.{◌≡◌, ℕ, ◌==◌, ◌⊎◌, Bool, false, 
 use Rattle.std.specs.declared.vec.Vec.{Vec}
 use Rattle.std.specs.declared.alloc.Global.{Global}
 use Rattle.gft_text.specs.declared.host_port.HostPort.{HostPort}
-use Rattle.gft_reply.specs.declared.reply.Reply.{Reply}
 use Rattle.gft_outside.specs.Words.{LaneState}
 use Rattle.gft_outside.specs.declared.link.LinkError.{LinkError}
 use Rattle.gft_outside.specs.declared.link.LinkError.TheVariants as errors
@@ -15,21 +14,21 @@ use Rattle.gft_session.specs.declared.settings.TransferType.{TransferType}
 use Rattle.gft_session.specs.declared.settings.TransferType.TheVariants as types
 use Rattle.gft_session.specs.declared.settings.Mode.{Mode}
 use Rattle.gft_session.specs.declared.settings.Mode.TheVariants as modes
+use Rattle.gft_session.specs.Brought.{Brought, alone}
 use Rattle.gft_session.specs.Listeners.{ListensNot, ListensOn, Returns}
-use Rattle.gft_session.specs.Replies.{reply_of}
 use Rattle.gft_session.specs.Settings.{State, World, held}
 
 -- one reply, and the settings after it
-pub record Says {L X : Type 0} (kind : ReplyKind) (after : State L) (old : World L X) (replies : List Reply)
+pub record Says {L X : Type 0} (kind : ReplyKind) (after : State L) (old : World L X) (brought : Brought)
     (new : World L X) : Type 0 where
-  pub reply : replies ≡ reply_of kind ∷ []
+  pub reply : brought ≡ alone kind
   pub state : new.state ≡ after
   pub link : new.link ≡ old.link
 
 -- the same, and the lanes that were held are given back
 pub record SaysAndReturns {L X : Type 0} (lane : L → LaneState) (kind : ReplyKind) (after : State L)
-    (old : World L X) (replies : List Reply) (new : World L X) : Type 0 where
-  pub reply : replies ≡ reply_of kind ∷ []
+    (old : World L X) (brought : Brought) (new : World L X) : Type 0 where
+  pub reply : brought ≡ alone kind
   pub state : new.state ≡ after
   pub returned : Returns lane old.link new.link (held old.state)
 
@@ -90,21 +89,21 @@ IsStriped places kind = (text : Vec HostPort Global) × (text.items ≡ places) 
 
 -- new listeners, whose places the reply names
 pub record Listens {L X : Type 0} (lane : L → LaneState) (stripes : ℕ)
-    (IsNamed : List HostPort → ReplyKind → Type 0) (old : World L X) (replies : List Reply)
+    (IsNamed : List HostPort → ReplyKind → Type 0) (old : World L X) (brought : Brought)
     (new : World L X) : Type 0 where
   pub places : List HostPort
   pub kind : ReplyKind
   pub listens : ListensOn lane stripes old places new
   pub named : IsNamed places kind
-  pub reply : replies ≡ reply_of kind ∷ []
+  pub reply : brought ≡ alone kind
 
 -- no new listeners
-pub record IsRefused {L X : Type 0} (old : World L X) (replies : List Reply) (new : World L X) : Type 0 where
+pub record IsRefused {L X : Type 0} (old : World L X) (brought : Brought) (new : World L X) : Type 0 where
   pub why : LinkError
   pub same : ListensNot why old new
-  pub reply : replies ≡ reply_of (refused_reply why) ∷ []
+  pub reply : brought ≡ alone (refused_reply why)
 
 abbrev pub AnswersListen : {L X : Type 0} → (L → LaneState) → ℕ → (List HostPort → ReplyKind → Type 0) →
-    World L X → List Reply → World L X → Type 0
-AnswersListen lane stripes IsNamed old replies new =
-    IsRefused old replies new ⊎ Listens lane stripes IsNamed old replies new
+    World L X → Brought → World L X → Type 0
+AnswersListen lane stripes IsNamed old brought new =
+    IsRefused old brought new ⊎ Listens lane stripes IsNamed old brought new

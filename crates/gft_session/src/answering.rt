@@ -1,40 +1,47 @@
 //! One line, from its bytes to those of its reply.
 
-ghost use Rattle.std.specs.Prelude.{◌≡◌, ◌≤◌, ◌↔◌, [], ◌∷◌, IfOk, OnOk, IsTrue};
+ghost use Rattle.std.specs.Prelude.{◌≡◌, ◌≤◌, ◌↔◌, IfOk, OnOk, IsTrue};
 ghost use Rattle.gft_command.specs.declared.command.Command.{Command};
 ghost use Rattle.gft_opts.specs.declared.TheConstants.{MAX_TARGETS};
 ghost use Rattle.gft_reply.specs.Words.{reply_text};
+ghost use Rattle.gft_session.specs.Brought.{output};
 ghost use Rattle.gft_session.specs.Conversation.{AnswersOne};
 ghost use Rattle.gft_session.specs.Listeners.{HasHandedOut, KeepsCount};
 ghost use Rattle.gft_session.specs.Replies.{HasText, reply_of};
 ghost use Rattle.gft_session.specs.Settings.{world};
-ghost use Rattle.gft_session.specs.Steps.{HasStopped, Puts};
+ghost use Rattle.gft_session.specs.Steps.{HasStopped, Puts, Takes, Tallies, WasRefused, list_of};
 
 use crate::reply_kind::ReplyKind;
+use crate::response::{Response, alone};
 use crate::session_end::Stopped;
 use crate::settings::Settings;
 use crate::stepping::step;
 use gft_command::{Command, parse};
-use gft_drive::Sink;
+use gft_drive::{Origin, Sink};
+use gft_library::{Answer, Library, Tally};
 use gft_opts::MAX_TARGETS;
-use gft_outside::Link;
+use gft_outside::{Link, Shelf};
 use std::alloc::Global;
+use std::sync::Wait;
 
 /// Answers one line. Tells whether the session goes on.
-pub(crate) fn answer<W: Sink, K: Link>(
+pub(crate) fn answer<W: Sink, K: Link, S: Shelf + Drop, O: Origin, G: Tally<S>, R: Wait>(
+    rt: &R,
     alloc: Global,
     stripes: u16,
     line: &[u8],
     settings: &mut Settings<K::In>,
     out: &mut W,
     link: &mut K,
+    library: &Library<S, O>,
+    tally: &mut G,
 ) -> Result<bool, Stopped>
     requires open { W.is_open out.old }
     requires stripes { (1 ≤ stripes) × (stripes ≤ MAX_TARGETS) }
     requires ours { HasHandedOut (world settings.old (K.state link.old)) }
     ensures answers { AnswersOne (record { stripes = stripes; lane = K.In.state }) line.now
         (world settings.old (K.state link.old)) (world settings.new (K.state link.new)) result
-        (W.written out.old) (W.written out.new) }
+        (output (W.written out.old) (G.told tally.old)) (output (W.written out.new) (G.told tally.new)) }
     ensures open { OnOk result (W.is_open out.new) }
     ensures ours { KeepsCount (world settings.old (K.state link.old))
         (world settings.new (K.state link.new)) }
@@ -43,30 +50,65 @@ pub(crate) fn answer<W: Sink, K: Link>(
     match parse(alloc, line) {
         Ok(command) => {
             let goes_on = !is_quit(&command);
-            let reply = step(alloc, stripes, command, settings, link);
-            say_and_tell(alloc, &reply, out, goes_on)
+            let response = step(rt, alloc, stripes, command, settings, link, library);
+            give_and_tell(alloc, response, out, tally, goes_on)
         }
-        Err(why) => say_and_tell(alloc, &ReplyKind::Unread(why), out, true),
+        Err(why) => give_and_tell(alloc, alone::<S>(ReplyKind::Unread(why)), out, tally, true),
     }
 }
 
-/// Puts a reply whole, and tells whether the session goes on behind it.
-fn say_and_tell<W: Sink>(
+/// Gives a reply, and tells whether the session goes on behind it.
+fn give_and_tell<S, W: Sink, G: Tally<S>>(
     alloc: Global,
-    kind: &ReplyKind,
+    response: Response<S>,
     out: &mut W,
+    tally: &mut G,
     goes_on: bool,
 ) -> Result<bool, Stopped>
     requires open { W.is_open out.old }
-    requires text { HasText kind.now }
-    ensures puts { Puts result (W.written out.old) (W.written out.new) (reply_text (reply_of kind.now)) }
+    requires text { HasText response.kind }
+    ensures puts { Puts result (W.written out.old) (W.written out.new)
+        (reply_text (reply_of response.kind)) }
+    ensures takes { Takes result response.answer (G.told tally.old) (G.told tally.new) }
     ensures told { IfOk result (λ told. told ≡ goes_on) }
     ensures open { OnOk result (W.is_open out.new) }
     ensures stopped { HasStopped (W.faults out.old) (W.faults out.new) result }
 {
-    match say(alloc, kind, out) {
+    match give(alloc, response, out, tally) {
         Ok(()) => Ok(goes_on),
         Err(stopped) => Err(stopped),
+    }
+}
+
+/// Puts a reply whole, or stops; just before that a tally takes the answer that it gives.
+fn give<S, W: Sink, G: Tally<S>>(
+    alloc: Global,
+    response: Response<S>,
+    out: &mut W,
+    tally: &mut G,
+) -> Result<(), Stopped>
+    requires open { W.is_open out.old }
+    requires text { HasText response.kind }
+    ensures puts { Puts result (W.written out.old) (W.written out.new)
+        (reply_text (reply_of response.kind)) }
+    ensures takes { Takes result response.answer (G.told tally.old) (G.told tally.new) }
+    ensures open { OnOk result (W.is_open out.new) }
+    ensures stopped { HasStopped (W.faults out.old) (W.faults out.new) result }
+{
+    let Response { kind, answer } = response;
+    let Ok(text) = kind.text(alloc) else {
+        return Err(Stopped::OutOfMemory);
+    };
+    take(answer, tally);
+    put_whole(&text, out)
+}
+
+fn take<S, G: Tally<S>>(answer: Option<Answer<S>>, tally: &mut G)
+    ensures { Tallies (G.told tally.old) (G.told tally.new) (list_of answer) }
+{
+    match answer {
+        Some(answer) => tally.take(answer),
+        None => {}
     }
 }
 
@@ -81,7 +123,17 @@ pub(crate) fn say<W: Sink>(alloc: Global, kind: &ReplyKind, out: &mut W) -> Resu
     let Ok(text) = kind.text(alloc) else {
         return Err(Stopped::OutOfMemory);
     };
-    match out.put(&text) {
+    put_whole(&text, out)
+}
+
+fn put_whole<W: Sink>(text: &[u8], out: &mut W) -> Result<(), Stopped>
+    requires open { W.is_open out.old }
+    ensures puts { Puts result (W.written out.old) (W.written out.new) text.now }
+    ensures open { OnOk result (W.is_open out.new) }
+    ensures memory { ¬ WasRefused result }
+    ensures stopped { HasStopped (W.faults out.old) (W.faults out.new) result }
+{
+    match out.put(text) {
         Ok(()) => Ok(()),
         Err(_) => Err(Stopped::OutFault),
     }

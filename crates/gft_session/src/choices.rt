@@ -9,6 +9,7 @@ ghost use Rattle.gft_session.specs.Settings.{state_of, with_options, without_lis
 use crate::reply_kind::ReplyKind;
 use crate::settings::{Login, Mode, Settings, TransferType};
 use gft_opts::RetrOptions;
+use gft_range::RangeSet;
 use gft_text::Words;
 
 /// USER (RFC 959, section 4.1.1): the login is undone, and a PASS line may follow.
@@ -112,6 +113,15 @@ pub(crate) fn set_options<L>(options: RetrOptions, settings: &mut Settings<L>) -
     settings.layout = options.layout.unwrap_or(settings.layout);
     settings.parallel = options.parallel.unwrap_or(settings.parallel);
     ReplyKind::OptionsSet
+}
+
+/// REST (GFD.20): the list is kept for the next line that begins a transfer.
+pub(crate) fn keep_list<L>(list: RangeSet, settings: &mut Settings<L>) -> ReplyKind
+    ensures reply { result ≡ ReplyKind.RestNoted }
+    ensures set { state_of settings.new ≡ record (state_of settings.old) { rest = list.ranges } }
+{
+    settings.rest = list;
+    ReplyKind::RestNoted
 }
 
 /// The lines that begin a transfer drop the kept REST list, whatever the answer.

@@ -5,16 +5,18 @@
 //! text of every reply, `specs/Conversation.antt` says what a whole session is. A line goes from bytes to a
 //! command, to a step that changes the settings and names a reply, to that reply's bytes.
 //!
-//! Files aren't built in yet: SIZE, DELE and the lines that begin a transfer are answered `504 Not built.`
-//! Nothing here reads a socket; listening is the link's.
+//! SIZE and DELE ask the library. Transfers aren't built in yet: the lines that begin one are answered
+//! `504 Not built.` Nothing here reads a socket; listening is the link's.
 #![tactic(auto)]
 
 mod answering;
+mod asking;
 mod choices;
 mod config;
 mod hearing;
 mod ports;
 mod reply_kind;
+mod response;
 mod session;
 mod session_end;
 mod settings;

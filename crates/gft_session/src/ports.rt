@@ -4,7 +4,8 @@ ghost use Rattle.std.specs.Prelude.{◌≡◌, ◌≤◌, ◌+◌, [], ◌∷◌
 ghost use Rattle.gft_opts.specs.declared.TheConstants.{MAX_TARGETS};
 ghost use Rattle.gft_session.specs.Listeners.{HasHandedOut, KeepsCount, ListensNot, ListensOn, Returns};
 ghost use Rattle.gft_session.specs.Listeners.{lanes_of, places_of};
-ghost use Rattle.gft_session.specs.Replies.{HasText, reply_of};
+ghost use Rattle.gft_session.specs.Brought.{alone};
+ghost use Rattle.gft_session.specs.Replies.{HasText};
 ghost use Rattle.gft_session.specs.Saying.{AnswersListen, IsPassive, IsStriped, SaysAndReturns};
 ghost use Rattle.gft_session.specs.Saying.{refused_reply};
 ghost use Rattle.gft_session.specs.Settings.{lanes_in, side_of, state_of, world};
@@ -26,7 +27,7 @@ pub(crate) fn passive<K: Link>(
 ) -> ReplyKind
     requires ours { HasHandedOut (world settings.old (K.state link.old)) }
     ensures answers { AnswersListen K.In.state 1 IsPassive (world settings.old (K.state link.old))
-        (reply_of result ∷ []) (world settings.new (K.state link.new)) }
+        (alone result) (world settings.new (K.state link.new)) }
     ensures ours { KeepsCount (world settings.old (K.state link.old))
         (world settings.new (K.state link.new)) }
     ensures text { HasText result }
@@ -47,7 +48,7 @@ pub(crate) fn striped<K: Link>(
     requires stripes { (1 ≤ stripes) × (stripes ≤ MAX_TARGETS) }
     requires ours { HasHandedOut (world settings.old (K.state link.old)) }
     ensures answers { AnswersListen K.In.state stripes IsStriped (world settings.old (K.state link.old))
-        (reply_of result ∷ []) (world settings.new (K.state link.new)) }
+        (alone result) (world settings.new (K.state link.new)) }
     ensures ours { KeepsCount (world settings.old (K.state link.old))
         (world settings.new (K.state link.new)) }
     ensures text { HasText result }
@@ -77,7 +78,7 @@ pub(crate) fn set_target<K: Link>(
     requires ours { HasHandedOut (world settings.old (K.state link.old)) }
     ensures answers { SaysAndReturns K.In.state (ReplyKind.TargetsSet 1)
         (with_targets (state_of settings.old) (at ∷ [])) (world settings.old (K.state link.old))
-        (reply_of result ∷ []) (world settings.new (K.state link.new)) }
+        (alone result) (world settings.new (K.state link.new)) }
     ensures ours { KeepsCount (world settings.old (K.state link.old))
         (world settings.new (K.state link.new)) }
     ensures text { HasText result }
@@ -96,7 +97,7 @@ pub(crate) fn set_targets<K: Link>(
     requires ours { HasHandedOut (world settings.old (K.state link.old)) }
     ensures answers { SaysAndReturns K.In.state (ReplyKind.TargetsSet (length places))
         (with_targets (state_of settings.old) places) (world settings.old (K.state link.old))
-        (reply_of result ∷ []) (world settings.new (K.state link.new)) }
+        (alone result) (world settings.new (K.state link.new)) }
     ensures ours { KeepsCount (world settings.old (K.state link.old))
         (world settings.new (K.state link.new)) }
     ensures text { HasText result }

@@ -5,11 +5,13 @@ ghost use Rattle.std.specs.Prelude.{decimal, map};
 ghost use Rattle.std.specs.List.{list_all};
 ghost use Rattle.gft_text.specs.Words.{host_port_text};
 ghost use Rattle.gft_reply.specs.Words.{FitsReply, reply_text};
-ghost use Rattle.gft_session.specs.Replies.{HasText, features, is_line, line, lines_from, reply_of};
-ghost use Rattle.gft_session.specs.Replies.{unread_reply};
+ghost use Rattle.gft_session.specs.Replies.{HasText, busy_reply, features, is_line, library_reply, line};
+ghost use Rattle.gft_session.specs.Replies.{lines_from, reply_of, unread_reply};
 
 use gft_base::OutOfMemory;
+use gft_book::Use;
 use gft_command::CommandError;
+use gft_library::LibraryError;
 use gft_opts::MAX_TARGETS;
 use gft_reply::{LINE_COUNT_LIMIT, Reply, ReplyLines};
 use gft_text::{HostPort, write_host_port};
@@ -51,6 +53,14 @@ pub(crate) enum ReplyKind {
     Striped(Vec<HostPort>),
     TargetsSet(usize),
     RestNoted,
+    /// The length of a file in bytes.
+    Length(u64),
+    Deleted,
+    BadName,
+    /// The library refuses.
+    Refused(LibraryError),
+    Complete,
+    PartStored,
     NotBuilt,
     NoTransfer,
     OutOfMemory,
@@ -105,6 +115,12 @@ impl ReplyKind {
             ReplyKind::Striped(places) => striped(alloc, places),
             ReplyKind::TargetsSet(count) => targets_set(alloc, *count),
             ReplyKind::RestNoted => one_line(alloc, 350, b"Restart list noted."),
+            ReplyKind::Length(len) => length_of(alloc, *len),
+            ReplyKind::Deleted => one_line(alloc, 250, b"Deleted."),
+            ReplyKind::BadName => one_line(alloc, 553, b"Bad name."),
+            ReplyKind::Refused(why) => refused(alloc, *why),
+            ReplyKind::Complete => one_line(alloc, 226, b"Transfer complete."),
+            ReplyKind::PartStored => one_line(alloc, 226, b"Part stored."),
             ReplyKind::NotBuilt => one_line(alloc, 504, b"Not built."),
             ReplyKind::NoTransfer => one_line(alloc, 225, b"No transfer in progress."),
             ReplyKind::OutOfMemory => one_line(alloc, 455, b"Out of memory."),
@@ -125,6 +141,54 @@ fn unread(alloc: Global, why: CommandError) -> Result<Reply, OutOfMemory>
         CommandError::BadParameter => one_line(alloc, 501, b"Bad parameter."),
         CommandError::OutOfMemory => one_line(alloc, 455, b"Out of memory."),
     }
+}
+
+#[tactic(auto, unfolding(crate::specs::Replies::library_reply))]
+fn refused(alloc: Global, why: LibraryError) -> Result<Reply, OutOfMemory>
+    ensures reply { IfOk result (λ reply. reply ≡ library_reply why) }
+    ensures fits { IfOk result FitsReply }
+{
+    match why {
+        LibraryError::Busy { found } => busy(alloc, found),
+        LibraryError::Damaged(_) => one_line(alloc, 451, b"Journal damaged."),
+        LibraryError::CompleteAlready { len: _ } => one_line(alloc, 550, b"Complete already."),
+        LibraryError::NotInJournal { missing } => missing_in(alloc, missing.start, missing.end),
+        LibraryError::NoSuch => one_line(alloc, 550, b"No such file."),
+        LibraryError::Incomplete => one_line(alloc, 550, b"Not complete."),
+        LibraryError::TooManyNames => one_line(alloc, 452, b"Too many names: 65536."),
+        LibraryError::ShelfFailed => one_line(alloc, 451, b"Drive failed."),
+        LibraryError::OutOfMemory => one_line(alloc, 455, b"Out of memory."),
+        LibraryError::DriveFailed => one_line(alloc, 451, b"Drive failed."),
+    }
+}
+
+#[tactic(auto, unfolding(crate::specs::Replies::busy_reply))]
+fn busy(alloc: Global, found: Use) -> Result<Reply, OutOfMemory>
+    ensures reply { IfOk result (λ reply. reply ≡ busy_reply found) }
+    ensures fits { IfOk result FitsReply }
+{
+    match found {
+        Use::Storing => one_line(alloc, 450, b"Busy: storing."),
+        Use::Rest | Use::Reading(_) => one_line(alloc, 450, b"Busy: reading."),
+    }
+}
+
+fn length_of(alloc: Global, len: u64) -> Result<Reply, OutOfMemory>
+    ensures reply { IfOk result (λ reply. reply ≡ line 213 (decimal len)) }
+    ensures fits { IfOk result FitsReply }
+{
+    let text = format!(in alloc; "{len}")?;
+    one_line(alloc, 213, text.as_bytes())
+}
+
+/// The list names these offsets, which aren't stored.
+fn missing_in(alloc: Global, start: u64, end: u64) -> Result<Reply, OutOfMemory>
+    ensures reply { IfOk result (λ reply. reply ≡ line 554 (codes "REST names " ++ (decimal start
+        ++ (codes "-" ++ (decimal end ++ codes ", which is not stored."))))) }
+    ensures fits { IfOk result FitsReply }
+{
+    let text = format!(in alloc; "REST names {start}-{end}, which is not stored.")?;
+    one_line(alloc, 554, text.as_bytes())
 }
 
 fn feature_lines(alloc: Global) -> Result<Reply, OutOfMemory>

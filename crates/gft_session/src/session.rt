@@ -1,6 +1,7 @@
 //! A whole session.
 
 ghost use Rattle.std.specs.Prelude.{◌≡◌, ◌≤◌};
+ghost use Rattle.gft_session.specs.Brought.{output};
 ghost use Rattle.gft_session.specs.Conversation.{Closes, Converses, HasClosed, HasFault, IsConfig, IsSession};
 ghost use Rattle.gft_session.specs.Conversation.{end_of};
 ghost use Rattle.gft_session.specs.Listeners.{HasHandedOut, KeepsCount};
@@ -13,8 +14,9 @@ use crate::ports::release;
 use crate::reply_kind::ReplyKind;
 use crate::session_end::{SessionEnd, Stopped};
 use crate::settings::Settings;
-use gft_drive::Sink;
-use gft_outside::{Control, Link};
+use gft_drive::{Origin, Sink};
+use gft_library::{Library, Tally};
+use gft_outside::{Clock, Control, Link, Shelf};
 use gft_text::Lines;
 use std::alloc::Global;
 use std::sync::Wait;
@@ -25,37 +27,63 @@ use std::sync::Wait;
 /// in a row (`IdleControl`), brought as many bytes without a line's end as no line has (`LineTooLong`) or
 /// failed (`ControlFault`), where a put failed (`OutFault`), and where memory was refused that no reply
 /// could tell (`OutOfMemory`). Nothing is put after a put that failed. All that the link handed out is
-/// given back.
-pub fn run_session<C: Control, W: Sink, K: Link, R: Wait>(
+/// given back. The tally takes each answer of the library just before the reply that gives it is put, but
+/// for want of memory. The clock isn't asked.
+pub fn run_session<
+    C: Control,
+    W: Sink,
+    K: Link,
+    S: Shelf + Drop,
+    T: Clock,
+    O: Origin,
+    G: Tally<S>,
+    R: Wait,
+>(
     rt: &R,
     alloc: Global,
     control: &mut C,
     out: &mut W,
     link: &mut K,
+    library: &Library<S, O>,
+    _clock: &mut T,
     config: &Config,
+    tally: &mut G,
 ) -> SessionEnd
     requires config { IsConfig config.now }
     requires open { W.is_open out.old }
     ensures session { IsSession (record { stripes = config.now.stripes; lane = K.In.state }) config.now.idle
         result (K.state link.old) (K.state link.new) (C.state control.old) (C.state control.new)
-        (W.written out.old) (W.written out.new) }
+        (output (W.written out.old) (G.told tally.old)) (output (W.written out.new) (G.told tally.new)) }
+    ensures clock { T.left _clock.new ≡ T.left _clock.old }
     ensures fault { HasFault result (C.state control.old).faults (C.state control.new).faults
         (W.faults out.old) (W.faults out.new) }
 {
     let mut settings = Settings::new(alloc);
-    let end = converse(rt, alloc, control, out, link, config, &mut settings);
+    let end = converse(
+        rt,
+        alloc,
+        control,
+        out,
+        link,
+        library,
+        config,
+        tally,
+        &mut settings,
+    );
     release(link, settings.side);
     end
 }
 
 /// The same, but for the lanes that are left: the settings have them.
-fn converse<C: Control, W: Sink, K: Link, R: Wait>(
+fn converse<C: Control, W: Sink, K: Link, S: Shelf + Drop, O: Origin, G: Tally<S>, R: Wait>(
     rt: &R,
     alloc: Global,
     control: &mut C,
     out: &mut W,
     link: &mut K,
+    library: &Library<S, O>,
     config: &Config,
+    tally: &mut G,
     settings: &mut Settings<K::In>,
 ) -> SessionEnd
     requires config { IsConfig config.now }
@@ -63,7 +91,8 @@ fn converse<C: Control, W: Sink, K: Link, R: Wait>(
     requires ours { HasHandedOut (world settings.old (K.state link.old)) }
     ensures talk { Converses (record { stripes = config.now.stripes; lane = K.In.state }) config.now.idle
         result (world settings.old (K.state link.old)) (world settings.new (K.state link.new))
-        (C.state control.old) (C.state control.new) (W.written out.old) (W.written out.new) }
+        (C.state control.old) (C.state control.new) (output (W.written out.old) (G.told tally.old))
+        (output (W.written out.new) (G.told tally.new)) }
     ensures ours { KeepsCount (world settings.old (K.state link.old))
         (world settings.new (K.state link.new)) }
     ensures fault { HasFault result (C.state control.old).faults (C.state control.new).faults
@@ -79,7 +108,17 @@ fn converse<C: Control, W: Sink, K: Link, R: Wait>(
             Ok(()) => {}
             Err(end) => return close(alloc, out, end),
         }
-        match answer(alloc, config.stripes, lines.line(), settings, out, link) {
+        match answer(
+            rt,
+            alloc,
+            config.stripes,
+            lines.line(),
+            settings,
+            out,
+            link,
+            library,
+            tally,
+        ) {
             Ok(true) => {}
             Ok(false) => return SessionEnd::Quit,
             Err(stopped) => return ended(stopped),

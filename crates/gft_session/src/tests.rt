@@ -1,12 +1,18 @@
 ghost use Rattle.std.specs.Prelude.{◌≡◌, IfOk, true};
 
 use super::*;
+use crate::reply_kind::ReplyKind;
 use gft_base::OutOfMemory;
+use gft_book::{How, Use};
 use gft_core::Octets;
-use gft_drive::MemorySink;
-use gft_outside::{ControlItem, Listening, MemoryControl, MemoryLane, MemoryLink};
+use gft_drive::{Drive, MemoryDrive, MemorySink, Part, Unknown};
+use gft_library::{Library, LibraryError, MemoryTally, NoTally, Word};
+use gft_outside::{
+    ControlItem, Listening, MemoryControl, MemoryLane, MemoryLink, MemoryShelf, NamedDrive, NoClock,
+};
+use gft_range::Range;
 use gft_reply::{Replies, Reply, ReplyLines};
-use gft_text::{HostPort, read_host_port};
+use gft_text::{HostPort, read_host_port, read_name};
 use std::alloc::Global;
 use std::sync::Wait;
 use std::test::Fail;
@@ -47,7 +53,30 @@ fn bytes(alloc: Global, said: &[u8]) -> Result<ControlItem, OutOfMemory> {
     Ok(ControlItem::Bytes(Octets::from_bytes(alloc, said)?))
 }
 
-/// Runs a session with two stripes, which three silences in a row end.
+type Files = Library<MemoryShelf, Unknown>;
+
+const CONFIG: Config = Config {
+    stripes: 2,
+    marker_bytes: 5,
+    idle: 3,
+};
+
+/// A library of these files. The shelf's calls of these numbers fail.
+fn files_of(alloc: Global, drives: Vec<NamedDrive>, failing: Vec<u32>) -> Files {
+    let shelf = MemoryShelf::new(drives, 9, u32::MAX, Vec::new(alloc), failing);
+    Library::new(alloc, shelf)
+}
+
+/// A library of one file, `a.dat`, with the bytes `hello`, which was made elsewhere.
+fn hello(alloc: Global, failing: Vec<u32>) -> Result<Files, Fail> {
+    let name = read_name(alloc, b"a.dat")?;
+    let mut drive = MemoryDrive::new(alloc, name.as_bytes(), 9, u32::MAX, &[])?;
+    drive.write_at(Part::Bytes, 0, b"hello")?;
+    let drives = vec![in alloc; NamedDrive::new(name, drive)]?;
+    Ok(files_of(alloc, drives, failing))
+}
+
+/// Runs a session with two stripes, which three silences in a row end, over an empty library.
 fn run<R: Wait>(
     rt: &R,
     alloc: Global,
@@ -57,11 +86,18 @@ fn run<R: Wait>(
 ) -> SessionEnd
     requires { out.old.is_open ≡ true }
 {
-    let config = Config {
-        stripes: 2,
-        idle: 3,
-    };
-    run_session(rt, alloc, control, out, link, &config)
+    let files = files_of(alloc, Vec::new(alloc), Vec::new(alloc));
+    run_session(
+        rt,
+        alloc,
+        control,
+        out,
+        link,
+        &files,
+        &mut NoClock,
+        &CONFIG,
+        &mut NoTally,
+    )
 }
 
 /// The same of a peer that says this.
@@ -110,10 +146,9 @@ fn replies_in<R: Wait>(
 #[test]
 fn commands_before_the_login(rt: HostRuntime) -> Result<(), Fail> {
     let alloc = rt.alloc();
-    let rows: [(&[u8], &[u8]); 6] = [
+    let rows: [(&[u8], &[u8]); 5] = [
         (b"NOOP\r\n", b"200 Done.\r\n"),
-        (b"SIZE a\r\n", b"530 Log in first.\r\n"),
-        (b"STOR a\r\n", b"530 Log in first.\r\n"),
+        (b"USER x\r\n", b"331 Password please.\r\n"),
         (b"PASS x\r\n", b"503 USER first.\r\n"),
         (b"FOO\r\n", b"500 Unknown command.\r\n"),
         (b"QUIT\r\nNOOP\r\n", b"221 Goodbye.\r\n"),
@@ -121,6 +156,39 @@ fn commands_before_the_login(rt: HostRuntime) -> Result<(), Fail> {
     for (script, want) in rows {
         let said = replies(&rt, alloc, script, 0)?;
         assert_eq!(rt; said.as_slice(), want);
+    }
+    Ok(())
+}
+
+#[test]
+fn the_login_comes_first(rt: HostRuntime) -> Result<(), Fail> {
+    let alloc = rt.alloc();
+    let rows: [&[u8]; 21] = [
+        b"TYPE I\r\n",
+        b"MODE E\r\n",
+        b"STRU F\r\n",
+        b"DCAU N\r\n",
+        b"SBUF 9\r\n",
+        b"ALLO 9\r\n",
+        b"OPTS RETR Parallelism=4,4,4;\r\n",
+        b"PWD\r\n",
+        b"CWD /\r\n",
+        b"PASV\r\n",
+        b"SPAS\r\n",
+        b"PORT 127,0,0,1,200,10\r\n",
+        b"SPOR 127,0,0,1,200,10\r\n",
+        b"REST 0-5\r\n",
+        b"STOR a\r\n",
+        b"ESTO A 5 a\r\n",
+        b"RETR a\r\n",
+        b"ERET P 0 5 a\r\n",
+        b"SIZE a\r\n",
+        b"DELE a\r\n",
+        b"ABOR\r\n",
+    ];
+    for script in rows {
+        let said = replies(&rt, alloc, script, 0)?;
+        assert_eq!(rt; said.as_slice(), b"530 Log in first.\r\n".as_slice());
     }
     Ok(())
 }
@@ -160,14 +228,16 @@ fn settings_are_answered(rt: HostRuntime) -> Result<(), Fail> {
 #[test]
 fn other_lines_are_answered(rt: HostRuntime) -> Result<(), Fail> {
     let alloc = rt.alloc();
-    let rows: [(&[u8], &[u8]); 9] = [
+    let rows: [(&[u8], &[u8]); 11] = [
         (b"ALLO 10\r\n", b"202 ALLO is not needed.\r\n"),
         (b"PWD\r\n", b"257 \"/\" is the only folder.\r\n"),
         (b"CWD /\r\n", b"250 Folder is /.\r\n"),
         (b"CWD x\r\n", b"550 No such folder.\r\n"),
         (b"REST 0-5\r\n", b"350 Restart list noted.\r\n"),
         (b"STOR a\r\n", b"504 Not built.\r\n"),
-        (b"DELE a\r\n", b"504 Not built.\r\n"),
+        (b"ESTO A 5 a\r\n", b"504 Not built.\r\n"),
+        (b"RETR a\r\n", b"504 Not built.\r\n"),
+        (b"ERET P 0 5 a\r\n", b"504 Not built.\r\n"),
         (b"ABOR\r\n", b"225 No transfer in progress.\r\n"),
         (
             b"SPOR 127,0,0,1,200,10 127,0,0,1,200,11\r\n",
@@ -181,12 +251,13 @@ fn other_lines_are_answered(rt: HostRuntime) -> Result<(), Fail> {
     Ok(())
 }
 
-const SCRIPT: &[u8] = b"USER anonymous\r\nPASS x\r\nTYPE I\r\nMODE E\r\nDCAU N\r\nSPAS\r\nQUIT\r\n";
+const SCRIPT: &[u8] = b"USER anonymous\r\nPASS x\r\nTYPE I\r\nMODE E\r\nDCAU N\r\nSPAS\r\n\
+SIZE b.dat\r\nQUIT\r\n";
 
 const SCRIPT_REPLIES: &[u8] =
     b"220 GridFTP server ready.\r\n331 Password please.\r\n230 Logged in.\r\n\
 200 Type I.\r\n200 Mode E.\r\n200 DCAU N.\r\n229-Entering Striped Passive Mode.\r\n \
-127,0,0,1,200,10\r\n 127,0,0,1,200,11\r\n229 End\r\n221 Goodbye.\r\n";
+127,0,0,1,200,10\r\n 127,0,0,1,200,11\r\n229 End\r\n550 No such file.\r\n221 Goodbye.\r\n";
 
 // The peer says the script in two pieces.
 #[test]
@@ -221,9 +292,21 @@ fn sixteen_stripes_are_named(rt: HostRuntime) -> Result<(), Fail> {
     let mut link = link_of(alloc, 16, Vec::new(alloc))?;
     let config = Config {
         stripes: 16,
+        marker_bytes: 5,
         idle: 3,
     };
-    run_session(&rt, alloc, &mut control, &mut out, &mut link, &config);
+    let files = files_of(alloc, Vec::new(alloc), Vec::new(alloc));
+    run_session(
+        &rt,
+        alloc,
+        &mut control,
+        &mut out,
+        &mut link,
+        &files,
+        &mut NoClock,
+        &config,
+        &mut NoTally,
+    );
     let front = GREETING.len() + LOGIN_REPLIES.len();
     let got = Replies::new(alloc).feed(out.bytes().get(front..).unwrap_or(b""))?;
     let reply = got.reply.unwrap_or(Reply {
@@ -335,5 +418,142 @@ fn listening_fails_where_a_lane_waits(rt: HostRuntime) -> Result<(), Fail> {
     assert_eq!(rt; link.lanes_back().len(), 1);
     assert_eq!(rt; link.handed_out(), 0);
     assert_eq!(rt; link.faults(), 1);
+    Ok(())
+}
+
+/// The replies of a library behind the login to a peer that says this and goes, and what a tally with room
+/// for two answers took.
+fn answers<R: Wait>(
+    rt: &R,
+    alloc: Global,
+    files: &Files,
+    script: &[u8],
+) -> Result<(Vec<u8>, MemoryTally<MemoryShelf>), OutOfMemory> {
+    let items = vec![in alloc; bytes(alloc, LOGIN)?, bytes(alloc, script)?]?;
+    let mut control = MemoryControl::new(items, Vec::new(alloc));
+    let mut out = sink(alloc, Vec::new(alloc))?;
+    let mut link = link_of(alloc, 0, Vec::new(alloc))?;
+    let mut tally = MemoryTally::new(alloc, 2)?;
+    run_session(
+        rt,
+        alloc,
+        &mut control,
+        &mut out,
+        &mut link,
+        files,
+        &mut NoClock,
+        &CONFIG,
+        &mut tally,
+    );
+    let front = GREETING.len() + LOGIN_REPLIES.len();
+    let behind = out.bytes().get(front..).unwrap_or(b"");
+    Ok((Vec::from_slice(alloc, behind)?, tally))
+}
+
+#[test]
+fn files_are_answered(rt: HostRuntime) -> Result<(), Fail> {
+    let alloc = rt.alloc();
+    let files = hello(alloc, Vec::new(alloc))?;
+    let rows: [(&[u8], &[u8]); 8] = [
+        (b"SIZE a.dat\r\n", b"213 5\r\n"),
+        (b"SIZE /a.dat\r\n", b"213 5\r\n"),
+        (b"SIZE b.dat\r\n", b"550 No such file.\r\n"),
+        (b"SIZE .a\r\n", b"553 Bad name.\r\n"),
+        (b"DELE a/b\r\n", b"553 Bad name.\r\n"),
+        (b"DELE a.dat\r\n", b"250 Deleted.\r\n"),
+        (b"DELE a.dat\r\n", b"550 No such file.\r\n"),
+        (b"SIZE a.dat\r\n", b"550 No such file.\r\n"),
+    ];
+    for (script, want) in rows {
+        let (said, _) = answers(&rt, alloc, &files, script)?;
+        assert_eq!(rt; said.as_slice(), want);
+    }
+    Ok(())
+}
+
+// The second name is none, so no answer of the library is given for it.
+#[test]
+fn a_tally_takes_each_answer(rt: HostRuntime) -> Result<(), Fail> {
+    let alloc = rt.alloc();
+    let files = hello(alloc, Vec::new(alloc))?;
+    let script = b"SIZE a.dat\r\nSIZE .a\r\nDELE b.dat\r\nQUIT\r\n";
+    let (_, tally) = answers(&rt, alloc, &files, script)?;
+    let rows: [(&[u8], Word); 2] = [
+        (b"a.dat", Word::Length(5)),
+        (b"b.dat", Word::No(LibraryError::NoSuch)),
+    ];
+    for (place, (name, word)) in rows.into_iter().enumerate() {
+        let Some(answer) = tally.nth(place as u32) else {
+            return Err(OutOfMemory.into());
+        };
+        assert_eq!(rt;
+            answer.name().map_or(b"".as_slice(), |name| name.as_bytes()),
+            name
+        );
+        assert_eq!(rt; *answer.word(), word);
+    }
+    Ok(())
+}
+
+#[test]
+fn files_in_use_are_busy(rt: HostRuntime) -> Result<(), Fail> {
+    let alloc = rt.alloc();
+    let files = hello(alloc, Vec::new(alloc))?;
+    let (a, b) = (read_name(alloc, b"a.dat")?, read_name(alloc, b"b.dat")?);
+    let _reading = files.retrieve(&rt, &a, 1);
+    let _storing = files.store(&rt, &b, How::Fresh, 1);
+    let script = b"DELE a.dat\r\nSIZE b.dat\r\nDELE b.dat\r\n";
+    let (said, _) = answers(&rt, alloc, &files, script)?;
+    let want = b"450 Busy: reading.\r\n450 Busy: storing.\r\n450 Busy: storing.\r\n";
+    assert_eq!(rt; said.as_slice(), want.as_slice());
+    Ok(())
+}
+
+#[test]
+fn a_shelf_fails_once(rt: HostRuntime) -> Result<(), Fail> {
+    let alloc = rt.alloc();
+    let files = hello(alloc, vec![in alloc; 1]?)?;
+    let (said, _) = answers(&rt, alloc, &files, b"SIZE a.dat\r\nSIZE a.dat\r\n")?;
+    assert_eq!(rt;
+        said.as_slice(),
+        b"451 Drive failed.\r\n213 5\r\n".as_slice()
+    );
+    Ok(())
+}
+
+#[test]
+fn refusals_of_the_library_have_texts(rt: HostRuntime) -> Result<(), Fail> {
+    let alloc = rt.alloc();
+    let missing = Range {
+        start: 64,
+        end: 100,
+    };
+    let rows: [(LibraryError, &[u8]); 7] = [
+        (
+            LibraryError::Busy {
+                found: Use::Storing,
+            },
+            b"450 Busy: storing.\r\n",
+        ),
+        (
+            LibraryError::CompleteAlready { len: 5 },
+            b"550 Complete already.\r\n",
+        ),
+        (
+            LibraryError::NotInJournal { missing },
+            b"554 REST names 64-100, which is not stored.\r\n",
+        ),
+        (LibraryError::Incomplete, b"550 Not complete.\r\n"),
+        (
+            LibraryError::TooManyNames,
+            b"452 Too many names: 65536.\r\n",
+        ),
+        (LibraryError::OutOfMemory, b"455 Out of memory.\r\n"),
+        (LibraryError::DriveFailed, b"451 Drive failed.\r\n"),
+    ];
+    for (why, want) in rows {
+        let text = ReplyKind::Refused(why).text(alloc)?;
+        assert_eq!(rt; text.as_slice(), want);
+    }
     Ok(())
 }

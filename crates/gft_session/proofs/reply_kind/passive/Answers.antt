@@ -2,10 +2,11 @@ use Rattle.std.proofs.Common.{◌≡◌, ◌++◌, arith, refl}
 use Rattle.std.specs.Prelude.{codes}
 use Rattle.std.proofs.lemmas.Grind.{common_steps}
 use Rattle.gft_text.specs.Words.{host_port_text}
-use Rattle.gft_session.proofs.ReplyLemmas.{address_between}
+use Rattle.gft_session.proofs.ReplyLemmas.{address, joined, literal, short_line}
 use Rattle.gft_session.proofs.reply_kind.passive.Goals as goal
 
 pub one_line-requires-clause-text : goal.one_line-requires-clause-text
 one_line-requires-clause-text c =
-    let text : c.deref-2.result.now ≡ codes "Entering Passive Mode (" ++ host_port_text c.args.at.now ++ codes ")" = grind (arith, common_steps) in
-    rw text (address_between c.args.at.now c.in_ok-place.place.items (codes "Entering Passive Mode (") (codes ")") c.in_ok-place.ensures.read_again refl refl (omega arith) (omega arith))
+    let at = c.args.at.now in
+    let text : c.deref-2.result.now ≡ codes "Entering Passive Mode (" ++ host_port_text at ++ codes ")" = grind (arith, common_steps) in
+    rw text (short_line _ 326 (joined _ _ 226 100 (joined _ _ 100 126 (literal (codes "Entering Passive Mode (") 100 refl (omega arith)) (address at c.in_ok-place.place.items c.in_ok-place.ensures.read_again)) (literal (codes ")") 100 refl (omega arith))) (omega arith))

@@ -3,7 +3,7 @@ use Rattle.std.specs.Prelude.{codes}
 use Rattle.std.proofs.lemmas.Grind.{common_steps}
 use Rattle.std.proofs.lemmas.List.{length-map}
 use Rattle.gft_text.specs.Words.{host_port_text}
-use Rattle.gft_session.proofs.ReplyLemmas.{address_line, one_more_line}
+use Rattle.gft_session.proofs.ReplyLemmas.{address, one_more_line, short_line}
 use Rattle.gft_session.proofs.reply_kind.striped.Goals as goal
 
 pub of_lines-requires-clause-count : goal.of_lines-requires-clause-count
@@ -26,5 +26,5 @@ places-preserved c =
     let pushed : c.push-in-places.new.self ≡ c.places.lines ++ bytes ∷ [] = search rules in
     record {
       lines = grind (arith, common_steps);
-      test = rw pushed (one_more_line c.places.lines bytes c.places.invariant.test (rw c.in_ok-write_host_port.ensures.text (address_line _ bytes c.in_ok-write_host_port.ensures.read_again)));
+      test = rw pushed (one_more_line c.places.lines bytes c.places.invariant.test (rw c.in_ok-write_host_port.ensures.text (short_line _ 126 (address _ bytes c.in_ok-write_host_port.ensures.read_again) (omega arith))));
     }

@@ -1,4 +1,5 @@
 use Rattle.std.proofs.Common.{◌≡◌}
+use Rattle.gft_session.specs.Brought.{output}
 use Rattle.gft_session.specs.Conversation.{SoFar}
 use Rattle.gft_session.specs.Listeners.{HasHandedOut, KeepsCount}
 use Rattle.gft_session.specs.Settings.{world}
@@ -8,7 +9,7 @@ abbrev pub invariant-lines : goal.invariant-lines
 invariant-lines g l = record {
   so_far : SoFar (record { stripes = l.config.stripes; lane = g.K.In.Lane.state }) l.config.idle
       (world l.fn.settings (g.K.Link.state l.fn.link)) (world l.settings (g.K.Link.state l.link))
-      (g.C.Control.state l.fn.control) (g.C.Control.state l.control) l.lines (g.W.Sink.written l.fn.out) (g.W.Sink.written l.out);
+      (g.C.Control.state l.fn.control) (g.C.Control.state l.control) l.lines (output (g.W.Sink.written l.fn.out) (g.G.Tally.told l.fn.tally)) (output (g.W.Sink.written l.out) (g.G.Tally.told l.tally));
   is_open : g.W.Sink.is_open l.out;
   ours : KeepsCount (world l.fn.settings (g.K.Link.state l.fn.link)) (world l.settings (g.K.Link.state l.link));
   room : HasHandedOut (world l.settings (g.K.Link.state l.link));
