@@ -1,0 +1,4 @@
+mod ArgumentLemmas
+mod OneLemmas
+mod OptionLemmas
+mod WordsLemmas
