@@ -19,3 +19,4 @@ mod BegunLemmas
 mod RowLemmas
 -- what the proofs of other crates may cite
 pub mod Lemmas
+mod LinkLemmas

@@ -5,3 +5,6 @@ mod PortLemmas
 mod ReplyLemmas
 mod RefusalLemmas
 mod SessionLemmas
+mod FitLemmas
+mod JobLemmas
+mod StoringLemmas

@@ -1,5 +1,6 @@
 -- Each reply of code 425 has its fault of the link.
-use Rattle.std.proofs.Common.{◌≡◌, ◌≤◌, ℕ, ◌+◌, ◌==◌, ◌||◌, Bool, true, false, MatchBool, if◌then◌else◌, List, [], ◌∷◌, length, refl, inl, inr, arith}
+use Rattle.std.proofs.Common.{◌≡◌, ◌≤◌, ◌⊎◌, ℕ, ◌+◌, ◌==◌, ◌||◌, ◌&&◌, not, Bool, true, false, MatchBool, MatchOption, if◌then◌else◌, List, [], ◌∷◌, length, map, slice_get, Option, None, Some, Result, Ok, Err, refl, ap, subst, zero, suc, inl, inr, arith}
+use Rattle.std.proofs.lemmas.Option.{same_Some}
 use Rattle.gft_reply.specs.declared.reply.Reply.{Reply}
 use Rattle.gft_text.specs.declared.host_port.HostPort.{HostPort}
 use Rattle.gft_command.specs.declared.command.Command.{Command}
@@ -26,9 +27,18 @@ use Rattle.gft_session.specs.Asking.{AsksLibrary, name_reply, word_reply}
 use Rattle.gft_session.specs.Brought.{Brought}
 use Rattle.gft_session.specs.Conversation.{Leads, RoseBy, Turn, refusals, refusals_in}
 use Rattle.gft_session.specs.Listeners.{Returns}
-use Rattle.gft_session.specs.Replies.{busy_reply, library_reply, reply_of, unread_reply}
+use Rattle.gft_session.specs.Replies.{busy_reply, cause_reply, library_reply, reply_of, unread_reply}
+use Rattle.gft_pass.specs.declared.cause.Cause.{Cause}
+use Rattle.gft_pass.specs.declared.cause.Cause.TheVariants as causes
+use Rattle.gft_book.specs.declared.usage.How.{How}
+use Rattle.gft_keep.specs.Words.{keep_of}
+use Rattle.gft_book.specs.Words.{SettledFile, book_of, start_now}
+use Rattle.gft_library.specs.Words.{word_of_file}
+use Rattle.gft_receive.proofs.Lemmas.{link_failed}
+use Rattle.gft_session.specs.Jobs.{Job, is_binary, is_empty, is_name, refusal, retrieve_refusal, store_refusal}
+use Rattle.gft_session.specs.Receiving.{AnswersRetrieve, AnswersStore, StoresBy, endings, limits_for}
 use Rattle.gft_session.specs.Saying.{AnswersListen, IsPassive, IsStriped, Says, SaysAndReturns, folder_reply, is_root, mode_reply, pass_reply, protection_reply, refused_reply, structure_reply, type_reply}
-use Rattle.gft_session.specs.Settings.{Around, State, World, is_in}
+use Rattle.gft_session.specs.Settings.{Around, State, World, held, is_in}
 use Rattle.gft_session.specs.Table.{AnswersLine, Row, is_free}
 
 -- ---- which replies are of code 425
@@ -36,8 +46,13 @@ use Rattle.gft_session.specs.Table.{AnswersLine, Row, is_free}
 abbrev pub Quiet : ReplyKind → Type 0
 Quiet kind = refusals (reply_of kind ∷ []) ≡ 0
 
+is_link : Cause → Bool
+is_link causes.LinkFailed = true
+is_link _ = false
+
 is_loud : ReplyKind → Bool
 is_loud kinds.CannotListen = true
+is_loud (kinds.Failed why) = is_link why
 is_loud _ = false
 
 quiet_unread : (why : CommandError) → Quiet (kinds.Unread why)
@@ -57,11 +72,17 @@ unfolding reply_of library_reply
 quiet_library (errors_of.Busy found) = quiet_busy found
 quiet_library _ = refl
 
+quiet_cause : (why : Cause) → is_link why ≡ false → Quiet (kinds.Failed why)
+unfolding reply_of cause_reply is_link
+quiet_cause causes.LinkFailed loud = absurd (cc loud)
+quiet_cause _ loud = refl
+
 quiet : (kind : ReplyKind) → is_loud kind ≡ false → Quiet kind
 unfolding reply_of is_loud
 quiet kinds.CannotListen loud = absurd (cc loud)
 quiet (kinds.Unread why) loud = quiet_unread why
 quiet (kinds.Refused why) loud = quiet_library why
+quiet (kinds.Failed why) loud = quiet_cause why loud
 quiet _ loud = refl
 
 quiet_pass : (login : Login) → Quiet (pass_reply login)
@@ -153,7 +174,86 @@ asks_quiet call path brought (inr row) = rw row.gives (quiet_name row.why)
 asks_rose : {L X : Type 0} (call : LibraryCall) (path : List ℕ) (old : World L X) (brought : Brought) (new : World L X) → AsksLibrary call path brought × (new ≡ old) → RoseBy (refusals brought.replies) old.link.faults new.link.faults
 asks_rose call path old brought new row = rw (asks_quiet call path brought row.0, row.1) (omega arith)
 
-row_rose : {L X : Type 0} (around : Around L) (command : Command) (old : World L X) (brought : Brought) (new : World L X) → Row around command old brought new → RoseBy (refusals brought.replies) old.link.faults new.link.faults
+-- ---- lines that begin a transfer
+
+quiet_refusal : {L : Type 0} (state : State L) (path : List ℕ) (is_part is_ready : Bool) (last why : ReplyKind) → Quiet last → refusal state path is_part is_ready last ≡ Some why → Quiet why
+unfolding is_loud
+quiet_refusal state path is_part is_ready last why quiet_last is =
+    chosen (not (is_binary state.transfer_type state.mode)) _ _ why (quiet kinds.SetTypeAndMode refl)
+    (chosen (is_part && not (is_empty state.rest)) _ _ why (quiet kinds.RestElsewhere refl)
+    (chosen (not (is_name path)) _ _ why (quiet kinds.BadName refl)
+    (chosen (not is_ready) _ None why quiet_last (λ none. absurd (cc none))))) is
+  where
+    chosen : (test : Bool) (kind : ReplyKind) (other : Option ReplyKind) (why : ReplyKind) → Quiet kind → (other ≡ Some why → Quiet why) → (if test then Some kind else other) ≡ Some why → Quiet why
+    chosen true kind other why quiet_kind later is' = subst Quiet (same_Some _ _ is') quiet_kind
+    chosen false kind other why quiet_kind later is' = later is'
+
+by_refusal : {P : Type 0} {Q : ReplyKind → Type 0} {R : Type 0} (found : Option ReplyKind) → (found ≡ None → P → R) → ((why : ReplyKind) → found ≡ Some why → Q why → R) → MatchOption found P Q → R
+by_refusal None none some row = none refl row
+by_refusal (Some why) none some row = some why refl row
+
+retrieve_rose : {L X : Type 0} (path : List ℕ) (is_part : Bool) (old : World L X) (brought : Brought) (new : World L X) → AnswersRetrieve path is_part old brought new → RoseBy (refusals brought.replies) old.link.faults new.link.faults
+unfolding is_loud
+retrieve_rose path is_part old brought new (inl memory) = says_rose _ _ _ _ _ (quiet kinds.OutOfMemory refl) memory
+retrieve_rose path is_part old brought new (inr row) =
+    by_refusal (retrieve_refusal old.state path is_part) (λ none says. says_rose _ _ _ _ _ (quiet kinds.NotBuilt refl) says)
+    (λ why is says. says_rose _ _ _ _ _ (quiet_refusal old.state path is_part _ kinds.TargetsFirst why (quiet kinds.TargetsFirst refl) is) says) row
+
+-- a lane's fault lets the count rise
+fault_rose : {L X : Type 0} (lane : L → LaneState) (a b : LinkState L X) (lanes : List L) (place : ℕ) (one : L) → slice_get lanes place ≡ Some one → 1 ≤ (lane one).faults → Returns lane a b lanes → RoseBy 1 a.faults b.faults
+fault_rose lane a b [] place one at fault returns = absurd (cc at)
+fault_rose lane a b (first ∷ others) zero one at fault returns =
+    omega (arith, returns.1.faults, ap (λ l. (lane l).faults) (same_Some _ _ at), fault, returned_rose lane returns.0 b others returns.2)
+fault_rose lane a b (first ∷ others) (suc place) one at fault returns =
+    omega (arith, returns.1.faults, fault_rose lane returns.0 b others place one at fault returns.2)
+
+refusals_two : (one other : Reply) → refusals (one ∷ []) ≡ 0 → refusals (other ∷ []) ≡ 0 → refusals (one ∷ other ∷ []) ≡ 0
+refusals_two one other a b = omega (arith, a, b)
+
+-- the last replies have a 425 only where the end is the link's
+endings_quiet : (end : Result SettledFile Cause) → (end ≡ Err causes.LinkFailed) ⊎ (refusals (map reply_of (endings end)) ≡ 0)
+unfolding is_loud is_link
+endings_quiet (Ok file) = inr (quiet_word (word_of_file file))
+endings_quiet (Err causes.LinkFailed) = inl refl
+endings_quiet (Err causes.Aborted) = inr (refusals_two (reply_of (kinds.Failed causes.Aborted)) (reply_of kinds.AbortDone) (quiet (kinds.Failed causes.Aborted) refl) (quiet kinds.AbortDone refl))
+endings_quiet (Err (causes.Lost lane channel taken)) = inr (quiet (kinds.Failed (causes.Lost lane channel taken)) refl)
+endings_quiet (Err (causes.BadBlock lane channel bad)) = inr (quiet (kinds.Failed (causes.BadBlock lane channel bad)) refl)
+endings_quiet (Err (causes.TwoTotals kept new)) = inr (quiet (kinds.Failed (causes.TwoTotals kept new)) refl)
+endings_quiet (Err (causes.BadTotal total)) = inr (quiet (kinds.Failed (causes.BadTotal total)) refl)
+endings_quiet (Err (causes.TooManyEods total)) = inr (quiet (kinds.Failed (causes.TooManyEods total)) refl)
+endings_quiet (Err (causes.Idle lane turns)) = inr (quiet (kinds.Failed (causes.Idle lane turns)) refl)
+endings_quiet (Err (causes.Hole total eods missing)) = inr (quiet (kinds.Failed (causes.Hole total eods missing)) refl)
+endings_quiet (Err (causes.StreamTooLong lane)) = inr (quiet (kinds.Failed (causes.StreamTooLong lane)) refl)
+endings_quiet (Err (causes.TooManyChannels lane opened live)) = inr (quiet (kinds.Failed (causes.TooManyChannels lane opened live)) refl)
+endings_quiet (Err causes.ControlGone) = inr (quiet (kinds.Failed causes.ControlGone) refl)
+endings_quiet (Err causes.DriveFailed) = inr (quiet (kinds.Failed causes.DriveFailed) refl)
+endings_quiet (Err (causes.RangesFull kept)) = inr (quiet (kinds.Failed (causes.RangesFull kept)) refl)
+endings_quiet (Err causes.Memory) = inr (quiet (kinds.Failed causes.Memory) refl)
+
+refusals_opening : (replies : List Reply) → refusals (reply_of kinds.Opening ∷ replies) ≡ refusals replies
+unfolding is_loud
+refusals_opening replies = omega (arith, quiet kinds.Opening refl)
+
+stores_rose : {L D X : Type 0} (around : Around L D) (part : Option ℕ) (name : List ℕ) (how : How) (lanes : List L) (old : LinkState L X) (brought : Brought) (new : LinkState L X) → StoresBy around part name how lanes old brought new → RoseBy (refusals brought.replies) old.faults new.faults
+stores_rose around part name how lanes old brought new row =
+    let none = refusals_opening (map reply_of (endings row.end)) in
+    rw (row.replies, none) (elim (endings_quiet row.end) [
+      | inl is ↦ let failed = link_failed around.lane (limits_for around part) (start_now (book_of around.drive row.begun)) lanes row.back (keep_of around.drive row.after.keep) (rw is at row.receives) in
+          rw is (omega (arith, at_most_one (reply_of (kinds.Failed causes.LinkFailed)), fault_rose around.lane old new row.back failed.place failed.lane failed.at failed.fault row.returned))
+      | inr zero_of ↦ rw zero_of (returned_rose around.lane old new row.back row.returned)
+    ])
+
+store_rose : {L D X : Type 0} (around : Around L D) (job : Job) (old : World L X) (brought : Brought) (new : World L X) → AnswersStore around job old brought new → RoseBy (refusals brought.replies) old.link.faults new.link.faults
+unfolding is_loud
+store_rose around job old brought new (inl memory) = says_rose _ _ _ _ _ (quiet kinds.OutOfMemory refl) memory
+store_rose around job old brought new (inr row) =
+    by_refusal (store_refusal old.state job) (λ none told. elim told [
+      | inl refuses ↦ rw (refuses.gives, quiet_word refuses.word, refuses.link) (omega arith)
+      | inr file ↦ stores_rose around job.part file.what.name file.what.how (held old.state) old.link brought new.link file.stores
+    ])
+    (λ why is says. says_rose _ _ _ _ _ (quiet_refusal old.state job.path _ _ kinds.ListenFirst why (quiet kinds.ListenFirst refl) is) says) row
+
+row_rose : {L D X : Type 0} (around : Around L D) (command : Command) (old : World L X) (brought : Brought) (new : World L X) → Row around command old brought new → RoseBy (refusals brought.replies) old.link.faults new.link.faults
 unfolding is_loud
 row_rose around (commands.User _) old brought new row = says_rose _ _ _ _ _ (quiet kinds.PasswordPlease refl) row
 row_rose around (commands.Pass _) old brought new row = says_rose _ _ _ _ _ (quiet_pass old.state.login) row
@@ -174,10 +274,10 @@ row_rose around commands.Spas old brought new row = listen_rose around.lane arou
 row_rose around (commands.Port at) old brought new row = returns_rose around.lane _ _ _ _ _ (quiet (kinds.TargetsSet 1) refl) row
 row_rose around (commands.Spor places) old brought new row = returns_rose around.lane _ _ _ _ _ (quiet (kinds.TargetsSet (length places)) refl) row
 row_rose around (commands.Rest list) old brought new row = says_rose _ _ _ _ _ (quiet kinds.RestNoted refl) row
-row_rose around (commands.Stor _) old brought new row = says_rose _ _ _ _ _ (quiet kinds.NotBuilt refl) row
-row_rose around (commands.Esto _) old brought new row = says_rose _ _ _ _ _ (quiet kinds.NotBuilt refl) row
-row_rose around (commands.Retr _) old brought new row = says_rose _ _ _ _ _ (quiet kinds.NotBuilt refl) row
-row_rose around (commands.Eret _) old brought new row = says_rose _ _ _ _ _ (quiet kinds.NotBuilt refl) row
+row_rose around (commands.Stor path) old brought new row = store_rose around (record { path = path; part = None }) old brought new row
+row_rose around (commands.Esto esto) old brought new row = store_rose around (record { path = esto.path; part = Some esto.offset }) old brought new row
+row_rose around (commands.Retr path) old brought new row = retrieve_rose path false old brought new row
+row_rose around (commands.Eret eret) old brought new row = retrieve_rose eret.path true old brought new row
 row_rose around (commands.Size path) old brought new row = asks_rose Sizes path old brought new row
 row_rose around (commands.Dele path) old brought new row = asks_rose Removes path old brought new row
 row_rose around commands.Abor old brought new row = says_rose _ _ _ _ _ (quiet kinds.NoTransfer refl) row
@@ -186,7 +286,7 @@ by_test : (b : Bool) (P Q R : Type 0) → (P → R) → (Q → R) → MatchBool 
 by_test true P Q R p q row = p row
 by_test false P Q R p q row = q row
 
-line_rose : {L X : Type 0} (around : Around L) (line : List ℕ) (old : World L X) (brought : Brought) (new : World L X) → AnswersLine around line old brought new → RoseBy (refusals brought.replies) old.link.faults new.link.faults
+line_rose : {L D X : Type 0} (around : Around L D) (line : List ℕ) (old : World L X) (brought : Brought) (new : World L X) → AnswersLine around line old brought new → RoseBy (refusals brought.replies) old.link.faults new.link.faults
 unfolding is_loud
 line_rose around line old brought new (inl reads) =
     by_test (is_free reads.command || is_in old.state.login) _ _ _
@@ -194,7 +294,7 @@ line_rose around line old brought new (inl reads) =
 line_rose around line old brought new (inr refuses) = says_rose _ _ _ _ _ (quiet_unread refuses.why) refuses.says
 
 -- the replies of code 425 are at most as many as the link's count rose by
-pub leads_rose : {L X : Type 0} (around : Around L) (start : World L X) (turns : List Turn) (now : World L X) → Leads around start turns now → RoseBy (refusals_in turns) start.link.faults now.link.faults
+pub leads_rose : {L D X : Type 0} (around : Around L D) (start : World L X) (turns : List Turn) (now : World L X) → Leads around start turns now → RoseBy (refusals_in turns) start.link.faults now.link.faults
 leads_rose around start [] now same = rw same (omega arith)
 leads_rose around start (turn ∷ older) now leads =
     omega (arith, leads_rose around start older leads.0 leads.1, line_rose around turn.line leads.0 turn.brought now leads.2)

@@ -15,7 +15,7 @@ use Rattle.gft_reply.specs.declared.reply.Reply.{Reply}
 use Rattle.gft_reply.specs.declared.TheConstants.{LINE_COUNT_LIMIT}
 use Rattle.gft_reply.specs.Words.{FitsReply}
 use Rattle.gft_reply.proofs.Lemmas.{FitsReply-short, IsLineText}
-use Rattle.gft_session.specs.Replies.{is_line}
+use Rattle.gft_session.specs.Replies.{IsPiece, is_line}
 
 -- ---- a line's test, in words
 
@@ -56,16 +56,14 @@ decimal-short n below = length-decimal-le 20 n (omega arith) (omega arith) below
 
 -- ---- pieces of a line
 
--- a text without an LF, of at most so many bytes
-pub record IsPiece (text : List ℕ) (most : ℕ) : Type 0 where
-  pub lacks : Lacks line_feed text
-  pub short : length text ≤ most
-
 pub literal : (text : List ℕ) (most : ℕ) → list_all (λ b. not (eqb b line_feed)) text ≡ true → length text ≤ most → IsPiece text most
 literal text most test short = record { lacks = literal_lacks line_feed text test; short = short }
 
 pub number : (n : ℕ) → n < 2 ^ 64 → IsPiece (decimal n) 20
 number n below = record { lacks = decimal_lacks line_feed n (lit< tt) below; short = decimal-short n below }
+
+pub number_in : (n most : ℕ) → most ≤ 2 ^ 64 → n < most → IsPiece (decimal n) 20
+number_in n most within below = number n (omega (arith, within, below))
 
 pub joined : (first next : List ℕ) (m n : ℕ) → IsPiece first m → IsPiece next n → IsPiece (first ++ next) (m + n)
 joined first next m n a b = record {

@@ -28,7 +28,7 @@ unfolding told
 told_nothing = refl
 
 -- the greeting was put
-pub begins : {L X : Type 0} (around : Around L) (idle : ℕ) (start : World L X) (control : ControlState) (reader : Held) (old new : Output) →
+pub begins : {L D X : Type 0} (around : Around L D) (idle : ℕ) (start : World L X) (control : ControlState) (reader : Held) (old new : Output) →
     ((stream : List ℕ) → lines_to_come reader stream ≡ told stream) → Appends old.put new.put greeting → Tallies old.taken new.taken [] → SoFar around idle start start control control reader old new
 begins around idle start control reader old new fresh put none = record {
   turns = [];
@@ -66,7 +66,7 @@ lines_now older lines now far settled =
     ap told (sym (append-nil (said older))) ∙ far [] ∙ ap (λ xs. lines ++ xs) settled
 
 -- one line more, whole
-pub goes_on : {L X : Type 0} {T : Type 0} (around : Around L) (idle : ℕ) (start mid now : World L X) (a b c : ControlState) (reader next : Held) (o p q : Output) (line : List ℕ) (result : Result T Stopped) →
+pub goes_on : {L D X T : Type 0} (around : Around L D) (idle : ℕ) (start mid now : World L X) (a b c : ControlState) (reader next : Held) (o p q : Output) (line : List ℕ) (result : Result T Stopped) →
     SoFar around idle start mid a b reader o p → HearsLine idle b c reader next → line ≡ shown next → Gives (λ brought. AnswersLine around line mid brought now) result p q → IsOk result → (IsQuit line → ⊥) →
     SoFar around idle start now a c next o q
 goes_on around idle start mid now a b c reader next o p q line result far hears is gives ok no_quit =
@@ -85,7 +85,7 @@ goes_on around idle start mid now a b c reader next o p q line result far hears 
     }
 
 -- QUIT was the last line
-pub quits : {L X : Type 0} {T : Type 0} (around : Around L) (idle : ℕ) (start mid now : World L X) (a b c : ControlState) (reader next : Held) (o p q : Output) (line : List ℕ) (result : Result T Stopped) →
+pub quits : {L D X T : Type 0} (around : Around L D) (idle : ℕ) (start mid now : World L X) (a b c : ControlState) (reader next : Held) (o p q : Output) (line : List ℕ) (result : Result T Stopped) →
     SoFar around idle start mid a b reader o p → HearsLine idle b c reader next → line ≡ shown next → Gives (λ brought. AnswersLine around line mid brought now) result p q → IsOk result → IsQuit line →
     Converses around idle ends.Quit start now a c o q
 quits around idle start mid now a b c reader next o p q line result far hears is gives ok quit =
@@ -164,7 +164,7 @@ taken_at_last stops.OutOfMemory turn older part (Err stops.OutOfMemory) o p q is
 }
 
 -- the last reply was not put whole
-pub stopped : {L X : Type 0} {T : Type 0} (around : Around L) (idle : ℕ) (start mid now : World L X) (a b c : ControlState) (reader next : Held) (o p q : Output) (line : List ℕ) (result : Result T Stopped) (why : Stopped) →
+pub stopped : {L D X T : Type 0} (around : Around L D) (idle : ℕ) (start mid now : World L X) (a b c : ControlState) (reader next : Held) (o p q : Output) (line : List ℕ) (result : Result T Stopped) (why : Stopped) →
     SoFar around idle start mid a b reader o p → HearsLine idle b c reader next → line ≡ shown next → Gives (λ brought. AnswersLine around line mid brought now) result p q → result ≡ Err why →
     Converses around idle (end_of why) start now a c o q
 stopped around idle start mid now a b c reader next o p q line result why far hears is gives same =
@@ -198,7 +198,7 @@ none_taken stops.OutFault result part same none = inl refl
 none_taken stops.OutOfMemory result part same none = inr (none (rw same tt), refl)
 
 -- the greeting was not put whole
-pub never_begins : {L X : Type 0} {T : Type 0} (around : Around L) (idle : ℕ) (start : World L X) (control : ControlState) (o p : Output) (result : Result T Stopped) (why : Stopped) →
+pub never_begins : {L D X T : Type 0} (around : Around L D) (idle : ℕ) (start : World L X) (control : ControlState) (o p : Output) (result : Result T Stopped) (why : Stopped) →
     Puts result o.put p.put greeting → Tallies o.taken p.taken [] → result ≡ Err why → Converses around idle (end_of why) start start control control o p
 never_begins around idle start control o p result why puts none same = record {
   turns = [];
@@ -255,7 +255,7 @@ taken_at_close end ends.IdleControl turns part none = refl
 taken_at_close end ends.LineTooLong turns part none = refl
 
 -- no further line was heard, and the closing line was put, or a part of it
-pub closed : {L X : Type 0} (around : Around L) (idle : ℕ) (start mid : World L X) (a b c : ControlState) (reader : Held) (o p q : Output) (end result : SessionEnd) →
+pub closed : {L D X : Type 0} (around : Around L D) (idle : ℕ) (start mid : World L X) (a b c : ControlState) (reader : Held) (o p q : Output) (end result : SessionEnd) →
     SoFar around idle start mid a b reader o p → StopsHearing end idle b c reader → Closes end result p.put q.put → q.taken ≡ p.taken → Converses around idle result start mid a c o q
 closed around idle start mid a b c reader o p q end result far hears closes same = record {
   turns = far.turns;

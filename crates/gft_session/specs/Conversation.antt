@@ -1,7 +1,7 @@
 -- A whole session: the lines that were heard, what each brought, and how it ended. Lists of turns and of
 -- inputs are newest first.
 use Rattle.std.specs.Prelude.{◌≡◌, ℕ, ◌+◌, ◌-◌, ◌^◌, ◌≤◌, ◌==◌, ◌⊎◌, min, if◌then◌else◌}
-use Rattle.std.specs.Prelude.{Bool, MatchBool, List, [], ◌∷◌, ◌++◌, Option, Result, IfOk}
+use Rattle.std.specs.Prelude.{Bool, MatchBool, List, [], ◌∷◌, ◌++◌, Option, Result, IfOk, Some}
 use Rattle.std.specs.Io.KnownBytes.{Appends}
 use Rattle.gft_base.specs.Words.{Rose}
 use Rattle.gft_drive.specs.Words.{IsPartOf}
@@ -10,6 +10,7 @@ use Rattle.gft_text.specs.Words.{lines_to_come}
 use Rattle.gft_reply.specs.declared.reply.Reply.{Reply}
 use Rattle.gft_reply.specs.Words.{reply_text}
 use Rattle.gft_command.specs.Words.{IsCommand}
+use Rattle.gft_command.specs.declared.command.Command.{Command}
 use Rattle.gft_command.specs.declared.command.Command.TheVariants as commands
 use Rattle.gft_library.specs.Words.{NamedWord}
 use Rattle.gft_outside.specs.Words.{ControlInput, ControlState, Hears, LinkState, said}
@@ -22,7 +23,9 @@ use Rattle.gft_session.specs.declared.session_end.Stopped.TheVariants as stops
 use Rattle.gft_session.specs.Hearing.{IsPatient, IsReason, overlong_at, taken_at}
 use Rattle.gft_session.specs.Listeners.{Returns}
 use Rattle.gft_session.specs.Replies.{reply_of, text_of_all}
-use Rattle.gft_session.specs.Settings.{Around, World, held, start_world}
+use Rattle.gft_session.specs.Jobs.{Job, stored_by}
+use Rattle.gft_session.specs.Receiving.{AreHonest}
+use Rattle.gft_session.specs.Settings.{Around, State, World, held, start_world}
 use Rattle.gft_session.specs.Brought.{Brought, Output}
 use Rattle.gft_session.specs.Steps.{AreBefore, Gives, Tallies, list_of}
 use Rattle.gft_session.specs.Table.{AnswersLine}
@@ -62,7 +65,7 @@ answers_in [] = []
 answers_in (turn ∷ older) = list_of turn.brought.answer ++ answers_in older
 
 -- the table leads from the world at the start to the one now, line by line
-abbrev pub Leads : {L X : Type 0} → Around L → World L X → List Turn → World L X → Type 0
+abbrev pub Leads : {L D X : Type 0} → Around L D → World L X → List Turn → World L X → Type 0
 Leads around start [] now = now ≡ start
 Leads around start (turn ∷ older) now =
     (mid : World _ _) × Leads around start older mid × AnswersLine around turn.line mid turn.brought now
@@ -86,6 +89,18 @@ EndsByQuit (turn ∷ older) = IsQuit turn.line × HasNoQuit older
 abbrev pub before_last : List Turn → List Turn
 before_last [] = []
 before_last (turn ∷ older) = older
+
+-- ---- whose condition it is
+
+-- the lanes that wait are honest for the file that the command stores, if its name has a source
+abbrev pub IsHonestFor : {L D : Type 0} → Around L D → State L → Command → Type 0
+IsHonestFor around state command = (job : Job) → stored_by command ≡ Some job → AreHonest around job state
+
+-- whatever conversation the table leads through, so are those that wait where a line stores
+abbrev pub IsHonestWith : {L D X : Type 0} → Around L D → World L X → Type 0
+IsHonestWith around start =
+    (turns : List Turn) (now : World _ _) (line : List ℕ) (command : Command) → Leads around start turns now
+    → IsCommand line command → IsHonestFor around now.state command
 
 -- ---- counts
 
@@ -169,7 +184,7 @@ HasFault _ heard_before heard_now put_before put_now =
     (heard_now ≡ heard_before) × (put_now ≡ put_before)
 
 -- the lines of a session and their replies, from its start to its end
-pub record Converses {L X : Type 0} (around : Around L) (idle : ℕ) (result : SessionEnd)
+pub record Converses {L D X : Type 0} (around : Around L D) (idle : ℕ) (result : SessionEnd)
     (start last : World L X) (was now : ControlState) (old new : Output) : Type 0 where
   pub turns : List Turn
   -- what was heard behind the last line
@@ -195,7 +210,7 @@ pub record Converses {L X : Type 0} (around : Around L) (idle : ℕ) (result : S
   pub taken : AreTaken result turns bytes answers
 
 -- a whole session; the lanes that are left at its end are given back
-pub record IsSession {L X : Type 0} (around : Around L) (idle : ℕ) (result : SessionEnd)
+pub record IsSession {L D X : Type 0} (around : Around L D) (idle : ℕ) (result : SessionEnd)
     (old_link new_link : LinkState L X) (was now : ControlState) (old new : Output) : Type 0 where
   pub last : World L X
   pub talk : Converses around idle result (start_world old_link) last was now old new
@@ -206,7 +221,7 @@ pub record IsSession {L X : Type 0} (around : Around L) (idle : ℕ) (result : S
 -- ---- on the way
 
 -- a session that goes on: every line heard was answered, and the reader stands behind the last
-pub record SoFar {L X : Type 0} (around : Around L) (idle : ℕ) (start mid : World L X)
+pub record SoFar {L D X : Type 0} (around : Around L D) (idle : ℕ) (start mid : World L X)
     (was now : ControlState) (reader : Held) (old new : Output) : Type 0 where
   pub turns : List Turn
   pub heard : Hears (inputs_of turns) was now
@@ -220,7 +235,7 @@ pub record SoFar {L X : Type 0} (around : Around L) (idle : ℕ) (start mid : Wo
   pub no_quit : HasNoQuit turns
 
 -- one line was answered, which tells whether the session goes on
-pub record AnswersOne {L X : Type 0} (around : Around L) (line : List ℕ) (old now : World L X)
+pub record AnswersOne {L D X : Type 0} (around : Around L D) (line : List ℕ) (old now : World L X)
     (result : Result Bool Stopped) (before after : Output) : Type 0 where
   pub gives : Gives (λ brought. AnswersLine around line old brought now) result before after
   pub goes_on : IfOk result (λ goes_on. MatchBool goes_on (¬ IsQuit line) (IsQuit line))

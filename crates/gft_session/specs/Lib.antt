@@ -7,5 +7,9 @@ pub mod Hearing
 pub mod Steps
 pub mod Asking
 pub mod Brought
+pub mod Fit
+pub mod Jobs
+pub mod Receiving
+pub mod Next
 pub mod Conversation
 pub mod Words

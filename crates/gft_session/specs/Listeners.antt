@@ -1,7 +1,7 @@
 -- What listening does to a session, and how its lanes are given back.
-use Rattle.std.specs.Prelude.{◌≡◌, ◌≤◌, ◌+◌, ℕ, List, [], ◌∷◌, length, map}
+use Rattle.std.specs.Prelude.{◌≡◌, ◌≤◌, All, ◌+◌, ℕ, List, [], ◌∷◌, length, map}
 use Rattle.gft_text.specs.declared.host_port.HostPort.{HostPort}
-use Rattle.gft_outside.specs.Words.{HandsOut, LaneState, LinkState, NotHandedOut, TakesBack}
+use Rattle.gft_outside.specs.Words.{HandsOut, IsNewLane, LaneState, LinkState, NotHandedOut, TakesBack}
 use Rattle.gft_outside.specs.declared.link.LinkError.{LinkError}
 use Rattle.gft_outside.specs.declared.link.Listening.{Listening}
 use Rattle.gft_session.specs.Settings.{Listeners, World, held}
@@ -25,6 +25,8 @@ pub record ListensOn {L X : Type 0} (lane : L → LaneState) (stripes : ℕ) (ol
   pub mid : LinkState L X
   pub count : length listening ≡ stripes
   pub handed_out : HandsOut old.link mid listening
+  -- no channel was opened on them yet
+  pub unused : All (λ l. IsNewLane (lane l)) (lanes_of listening)
   pub returned : Returns lane mid new.link (held old.state)
   pub shown : places ≡ places_of listening
   pub state : new.state ≡ record old.state { side = Listeners (lanes_of listening) }

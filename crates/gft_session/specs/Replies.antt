@@ -1,15 +1,18 @@
 -- Every reply of a session: its code and its lines (RFC 959, section 4.2; RFC 2389; GFD.20). No other
 -- definition has a text.
-use Rattle.std.specs.Prelude.{ℕ, ◌≤◌, List, [], ◌∷◌, ◌++◌, map, codes, decimal, length}
+use Rattle.std.specs.Prelude.{ℕ, ◌≤◌, List, [], ◌∷◌, ◌++◌, map, codes, decimal, length, Option, None, Some}
 use Rattle.std.specs.Prelude.{Bool, not, ◌&&◌, ◌==◌, nat_lt}
 use Rattle.std.specs.List.{list_all}
-use Rattle.gft_base.specs.Words.{line_feed}
+use Rattle.gft_base.specs.Words.{Lacks, line_feed}
 use Rattle.gft_text.specs.Words.{host_port_text}
 use Rattle.gft_reply.specs.declared.reply.Reply.{Reply}
 use Rattle.gft_reply.specs.Words.{reply_text}
 use Rattle.gft_opts.specs.declared.TheConstants.{MAX_TARGETS}
 use Rattle.gft_command.specs.declared.error.CommandError.{CommandError}
 use Rattle.gft_command.specs.declared.error.CommandError.TheVariants as unread
+use Rattle.gft_range.specs.declared.range.Range.{Range}
+use Rattle.gft_pass.specs.declared.cause.Cause.{Cause}
+use Rattle.gft_pass.specs.declared.cause.Cause.TheVariants as causes
 use Rattle.gft_book.specs.declared.usage.Use.{Use}
 use Rattle.gft_book.specs.declared.usage.Use.TheVariants as uses
 use Rattle.gft_library.specs.declared.error.LibraryError.{LibraryError}
@@ -31,6 +34,63 @@ unread_reply unread.UnknownVerb = line 500 (codes "Unknown command.")
 unread_reply unread.MissingParameter = line 501 (codes "Parameter missing.")
 unread_reply unread.BadParameter = line 501 (codes "Bad parameter.")
 unread_reply unread.OutOfMemory = line 455 (codes "Out of memory.")
+
+-- a number or a range, where there is one
+abbrev pub number_text : Option ℕ → List ℕ
+number_text None = codes "none"
+number_text (Some number) = decimal number
+
+abbrev pub range_text : Option Range → List ℕ
+range_text None = codes "none"
+range_text (Some range) = decimal range.start ++ (codes "-" ++ decimal range.end)
+
+abbrev pub lost_text : ℕ → ℕ → ℕ → List ℕ
+lost_text lane channel taken =
+    codes "Channel lost: lane " ++ (decimal lane ++ (codes ", channel " ++ (decimal channel
+    ++ (codes ", " ++ (decimal taken ++ codes " bytes taken.")))))
+
+abbrev pub bad_block_text : ℕ → ℕ → ℕ → ℕ → List ℕ
+bad_block_text place flags count offset =
+    codes "Bad block at " ++ (decimal place ++ (codes ": flags " ++ (decimal flags
+    ++ (codes ", count " ++ (decimal count ++ (codes ", offset " ++ (decimal offset ++ codes ".")))))))
+
+abbrev pub two_totals_text : ℕ → ℕ → List ℕ
+two_totals_text kept new =
+    codes "Two totals: " ++ (decimal kept ++ (codes " and " ++ (decimal new ++ codes ".")))
+
+abbrev pub idle_text : ℕ → ℕ → List ℕ
+idle_text lane turn = codes "Idle: lane " ++ (decimal lane ++ (codes ", turn " ++ (decimal turn ++ codes ".")))
+
+abbrev pub too_many_channels_text : ℕ → ℕ → ℕ → List ℕ
+too_many_channels_text lane opened live =
+    codes "Too many channels: lane " ++ (decimal lane ++ (codes ", opened " ++ (decimal opened
+    ++ (codes ", live " ++ (decimal live ++ codes ".")))))
+
+abbrev pub hole_text : Option ℕ → ℕ → Option Range → List ℕ
+hole_text total eods missing =
+    codes "Hole: total " ++ number_text total ++ codes ", EODs " ++ decimal eods ++ codes ", first missing "
+    ++ range_text missing ++ codes "."
+
+-- a transfer that ended without its file
+unfoldable pub cause_reply : Cause → Reply
+cause_reply (causes.Lost lane channel taken) = line 426 (lost_text lane channel taken)
+cause_reply (causes.BadBlock lane channel bad) =
+    line 426 (bad_block_text bad.place bad.flags bad.count bad.offset)
+cause_reply (causes.TwoTotals kept new) = line 426 (two_totals_text kept new)
+cause_reply (causes.BadTotal total) = line 426 (codes "Bad total: " ++ (decimal total ++ codes "."))
+cause_reply (causes.TooManyEods total) =
+    line 426 (codes "Too many EODs: total " ++ (decimal total ++ codes "."))
+cause_reply (causes.Idle lane turns) = line 426 (idle_text lane turns)
+cause_reply (causes.Hole total eods missing) = line 426 (hole_text total eods missing)
+cause_reply (causes.StreamTooLong lane) =
+    line 426 (codes "Stream too long: lane " ++ (decimal lane ++ codes "."))
+cause_reply (causes.TooManyChannels lane opened live) = line 426 (too_many_channels_text lane opened live)
+cause_reply causes.Aborted = line 426 (codes "Aborted.")
+cause_reply causes.ControlGone = line 426 (codes "Control lost.")
+cause_reply causes.LinkFailed = line 425 (codes "Data connection failed.")
+cause_reply causes.DriveFailed = line 451 (codes "Drive failed.")
+cause_reply (causes.RangesFull kept) = line 452 (codes "Too many ranges: 16384.")
+cause_reply causes.Memory = line 455 (codes "Out of memory.")
 
 -- a library that refuses
 unfoldable pub busy_reply : Use → Reply
@@ -94,6 +154,13 @@ reply_of kinds.BadName = line 553 (codes "Bad name.")
 reply_of (kinds.Refused why) = library_reply why
 reply_of kinds.Complete = line 226 (codes "Transfer complete.")
 reply_of kinds.PartStored = line 226 (codes "Part stored.")
+reply_of kinds.SetTypeAndMode = line 504 (codes "Set TYPE I and MODE E.")
+reply_of kinds.RestElsewhere = line 503 (codes "REST goes with STOR or RETR.")
+reply_of kinds.ListenFirst = line 503 (codes "SPAS or PASV first.")
+reply_of kinds.TargetsFirst = line 503 (codes "PORT or SPOR first.")
+reply_of kinds.Opening = line 150 (codes "Opening data connections.")
+reply_of (kinds.Failed cause) = cause_reply cause
+reply_of kinds.AbortDone = line 226 (codes "Abort processed.")
 reply_of kinds.NotBuilt = line 504 (codes "Not built.")
 reply_of kinds.NoTransfer = line 225 (codes "No transfer in progress.")
 reply_of kinds.OutOfMemory = line 455 (codes "Out of memory.")
@@ -108,6 +175,11 @@ text_of_all (reply ∷ replies) = reply_text reply ++ text_of_all replies
 -- the text has no LF, and room in a line
 abbrev pub is_line : List ℕ → Bool
 is_line text = list_all (λ b. not (b == line_feed)) text && nat_lt (length text) 1000
+
+-- the text has no LF, and at most so many bytes
+pub record IsPiece (text : List ℕ) (most : ℕ) : Type 0 where
+  pub lacks : Lacks line_feed text
+  pub short : length text ≤ most
 
 -- the reply has a text: it lists as many addresses as targets can be named
 abbrev pub HasText : ReplyKind → Type 0

@@ -6,6 +6,8 @@ use Rattle.gft_text.specs.declared.host_port.HostPort.{HostPort}
 use Rattle.gft_range.specs.declared.range.Range.{Range}
 use Rattle.gft_opts.specs.declared.retr.RetrOptions.{RetrOptions}
 use Rattle.gft_outside.specs.Words.{LaneState, LinkState}
+use Rattle.gft_drive.specs.Words.{DriveState, Sent}
+use Rattle.gft_session.specs.declared.config.Config.{Config}
 use Rattle.gft_session.specs.declared.settings.Login.{Login}
 use Rattle.gft_session.specs.declared.settings.Login.TheVariants as logins
 use Rattle.gft_session.specs.declared.settings.TransferType.{TransferType}
@@ -37,11 +39,30 @@ pub record World (L X : Type 0) : Type 0 where
   pub link : LinkState L X
 
 -- what stands round a session and doesn't change
-pub record Around (L : Type 0) : Type 0 where
+pub record Around (L D : Type 0) : Type 1 where
   -- how many stripes SPAS listens on
   pub stripes : ℕ
+  -- for so many stored bytes a marker is due
+  pub marker_bytes : ℕ
+  -- so many silences end what waits
+  pub idle : ℕ
   -- what a lane is
   pub lane : L → LaneState
+  -- what is sent of a name
+  pub sent : List ℕ → Option Sent
+  -- what a drive is
+  pub drive : D → DriveState
+
+abbrev pub around_of : {L D : Type 0} → Config → (L → LaneState) → (D → DriveState) → (List ℕ → Option Sent)
+    → Around L D
+around_of config lane drive sent = record {
+  stripes = config.stripes;
+  marker_bytes = config.marker_bytes;
+  idle = config.idle;
+  lane = lane;
+  drive = drive;
+  sent = sent;
+}
 
 abbrev pub start_state : {L : Type 0} → State L
 start_state = record {
@@ -90,6 +111,10 @@ with_options state options =
 -- the kept REST list is dropped
 abbrev pub without_list : {L : Type 0} → State L → State L
 without_list state = record state { rest = [] }
+
+-- the list and the lanes or targets are used up
+abbrev pub used_up : {L : Type 0} → State L → State L
+used_up state = record state { rest = []; side = Nobody }
 
 -- ---- the code's settings
 

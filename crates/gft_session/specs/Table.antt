@@ -1,6 +1,6 @@
 -- The session table: from a world and one line to what the line brings and the world after it.
 use Rattle.std.specs.Prelude.{◌≡◌, ◌⊎◌, ◌||◌, Bool, true, false, MatchBool, if◌then◌else◌}
-use Rattle.std.specs.Prelude.{ℕ, List, [], ◌∷◌, length}
+use Rattle.std.specs.Prelude.{ℕ, List, [], ◌∷◌, length, None, Some}
 use Rattle.gft_text.specs.declared.host_port.HostPort.{HostPort}
 use Rattle.gft_command.specs.Words.{IsCommand, RefusesLine}
 use Rattle.gft_command.specs.declared.command.Command.{Command}
@@ -11,6 +11,7 @@ use Rattle.gft_session.specs.declared.settings.Login.TheVariants as logins
 use Rattle.gft_library.specs.Words.{Removes, Sizes}
 use Rattle.gft_session.specs.Asking.{AsksLibrary}
 use Rattle.gft_session.specs.Brought.{Brought}
+use Rattle.gft_session.specs.Receiving.{AnswersRetrieve, AnswersStore}
 use Rattle.gft_session.specs.Saying.{AnswersListen, IsPassive, IsStriped, Says, SaysAndReturns}
 use Rattle.gft_session.specs.Saying.{after_mode, after_pass, after_type, folder_reply, mode_reply}
 use Rattle.gft_session.specs.Saying.{pass_reply, protection_reply, structure_reply, type_reply}
@@ -21,7 +22,7 @@ abbrev pub with_targets : {L : Type 0} → State L → List HostPort → State L
 with_targets state places = record state { side = Targets places }
 
 -- one row for each command
-abbrev pub Row : {L X : Type 0} → Around L → Command → World L X → Brought → World L X → Type 0
+abbrev pub Row : {L D X : Type 0} → Around L D → Command → World L X → Brought → World L X → Type 0
 Row around (commands.User _) old brought new =
     Says kinds.PasswordPlease (record old.state { login = logins.Named }) old brought new
 Row around (commands.Pass _) old brought new =
@@ -54,10 +55,12 @@ Row around (commands.Spor places) old brought new =
     old brought new
 Row around (commands.Rest list) old brought new =
     Says kinds.RestNoted (record old.state { rest = list.ranges }) old brought new
-Row around (commands.Stor _) old brought new = Says kinds.NotBuilt (without_list old.state) old brought new
-Row around (commands.Esto _) old brought new = Says kinds.NotBuilt (without_list old.state) old brought new
-Row around (commands.Retr _) old brought new = Says kinds.NotBuilt (without_list old.state) old brought new
-Row around (commands.Eret _) old brought new = Says kinds.NotBuilt (without_list old.state) old brought new
+Row around (commands.Stor path) old brought new =
+    AnswersStore around (record { path = path; part = None }) old brought new
+Row around (commands.Esto esto) old brought new =
+    AnswersStore around (record { path = esto.path; part = Some esto.offset }) old brought new
+Row around (commands.Retr path) old brought new = AnswersRetrieve path false old brought new
+Row around (commands.Eret eret) old brought new = AnswersRetrieve eret.path true old brought new
 Row around (commands.Size path) old brought new = AsksLibrary Sizes path brought × (new ≡ old)
 Row around (commands.Dele path) old brought new = AsksLibrary Removes path brought × (new ≡ old)
 Row around commands.Abor old brought new = Says kinds.NoTransfer old.state old brought new
@@ -83,14 +86,14 @@ abbrev pub dropped_by : {L : Type 0} → Command → State L → State L
 dropped_by command state = if is_transfer command then without_list state else state
 
 -- the login comes first
-abbrev pub AnswersCommand : {L X : Type 0} → Around L → Command → World L X → Brought → World L X → Type 0
+abbrev pub AnswersCommand : {L D X : Type 0} → Around L D → Command → World L X → Brought → World L X → Type 0
 AnswersCommand around command old brought new =
     MatchBool (is_free command || is_in old.state.login)
     (Row around command old brought new)
     (Says kinds.LogInFirst (dropped_by command old.state) old brought new)
 
 -- the line is a command, and is answered
-pub record Reads {L X : Type 0} (around : Around L) (line : List ℕ) (old : World L X) (brought : Brought)
+pub record Reads {L D X : Type 0} (around : Around L D) (line : List ℕ) (old : World L X) (brought : Brought)
     (new : World L X) : Type 0 where
   pub command : Command
   pub reads : IsCommand line command
@@ -105,5 +108,5 @@ pub record Refuses {L X : Type 0} (line : List ℕ) (old : World L X) (brought :
   pub says : Says (kinds.Unread why) old.state old brought new
 
 -- the reading comes before the login
-abbrev pub AnswersLine : {L X : Type 0} → Around L → List ℕ → World L X → Brought → World L X → Type 0
+abbrev pub AnswersLine : {L D X : Type 0} → Around L D → List ℕ → World L X → Brought → World L X → Type 0
 AnswersLine around line old brought new = Reads around line old brought new ⊎ Refuses line old brought new

@@ -1,59 +1,90 @@
 //! One line, from its bytes to those of its reply.
 
-ghost use Rattle.std.specs.Prelude.{◌≡◌, ◌≤◌, ◌↔◌, IfOk, OnOk, IsTrue};
+ghost use Rattle.std.specs.Prelude.{◌≡◌, ◌↔◌, IfOk, OnOk, IsTrue};
+ghost use Rattle.gft_drive.specs.Words.{sent_by};
+ghost use Rattle.gft_text.specs.Words.{shown};
 ghost use Rattle.gft_command.specs.declared.command.Command.{Command};
-ghost use Rattle.gft_opts.specs.declared.TheConstants.{MAX_TARGETS};
+ghost use Rattle.gft_command.specs.Words.{IsCommand};
 ghost use Rattle.gft_reply.specs.Words.{reply_text};
 ghost use Rattle.gft_session.specs.Brought.{output};
-ghost use Rattle.gft_session.specs.Conversation.{AnswersOne};
+ghost use Rattle.gft_session.specs.Conversation.{AnswersOne, IsConfig, IsHonestFor};
+ghost use Rattle.gft_session.specs.Fit.{IsFit};
 ghost use Rattle.gft_session.specs.Listeners.{HasHandedOut, KeepsCount};
 ghost use Rattle.gft_session.specs.Replies.{HasText, reply_of};
-ghost use Rattle.gft_session.specs.Settings.{world};
+ghost use Rattle.gft_session.specs.Settings.{around_of, state_of, world};
 ghost use Rattle.gft_session.specs.Steps.{HasStopped, Puts, Takes, Tallies, WasRefused, list_of};
 
+use crate::config::Config;
+use crate::next::Next;
 use crate::reply_kind::ReplyKind;
 use crate::response::{Response, alone};
 use crate::session_end::Stopped;
 use crate::settings::Settings;
 use crate::stepping::step;
+use crate::storing::store;
 use gft_command::{Command, parse};
 use gft_drive::{Origin, Sink};
 use gft_library::{Answer, Library, Tally};
-use gft_opts::MAX_TARGETS;
-use gft_outside::{Link, Shelf};
+use gft_outside::{Clock, Control, Link, Shelf};
+use gft_text::Lines;
 use std::alloc::Global;
 use std::sync::Wait;
+use std::thread::Threads;
 
 /// Answers one line. Tells whether the session goes on.
-pub(crate) fn answer<W: Sink, K: Link, S: Shelf + Drop, O: Origin, G: Tally<S>, R: Wait>(
+pub(crate) fn answer<
+    C: Control,
+    W: Sink,
+    K: Link,
+    S: Shelf + Drop,
+    T: Clock,
+    O: Origin + Send,
+    G: Tally<S>,
+    R: Threads + Wait + Sync,
+>(
     rt: &R,
     alloc: Global,
-    stripes: u16,
-    line: &[u8],
+    config: &Config,
+    control: &mut C,
+    lines: &mut Lines,
     settings: &mut Settings<K::In>,
     out: &mut W,
     link: &mut K,
     library: &Library<S, O>,
+    clock: &mut T,
     tally: &mut G,
 ) -> Result<bool, Stopped>
     requires open { W.is_open out.old }
-    requires stripes { (1 ≤ stripes) × (stripes ≤ MAX_TARGETS) }
+    requires config { IsConfig config.now }
+    requires fit { IsFit K.In.state (state_of settings.old) }
     requires ours { HasHandedOut (world settings.old (K.state link.old)) }
-    ensures answers { AnswersOne (record { stripes = stripes; lane = K.In.state }) line.now
-        (world settings.old (K.state link.old)) (world settings.new (K.state link.new)) result
+    requires honest { (command : Command) → IsCommand (shown lines.old) command
+        → IsHonestFor (around_of config.now K.In.state S.D.state (sent_by O.source O.orders O.fit))
+        (state_of settings.old) command }
+    ensures answers { AnswersOne (around_of config.now K.In.state S.D.state (sent_by O.source O.orders O.fit))
+        (shown lines.old) (world settings.old (K.state link.old)) (world settings.new (K.state link.new)) result
         (output (W.written out.old) (G.told tally.old)) (output (W.written out.new) (G.told tally.new)) }
     ensures open { OnOk result (W.is_open out.new) }
     ensures ours { KeepsCount (world settings.old (K.state link.old))
         (world settings.new (K.state link.new)) }
     ensures stopped { HasStopped (W.faults out.old) (W.faults out.new) result }
+    ensures unasked { (control.new ≡ control.old) × (lines.new ≡ lines.old) × (clock.new ≡ clock.old) }
 {
-    match parse(alloc, line) {
-        Ok(command) => {
-            let goes_on = !is_quit(&command);
-            let response = step(rt, alloc, stripes, command, settings, link, library);
-            give_and_tell(alloc, response, out, tally, goes_on)
+    let command = match parse(alloc, lines.line()) {
+        Ok(command) => command,
+        Err(why) => {
+            return give_and_tell(alloc, alone::<S>(ReplyKind::Unread(why)), out, tally, true);
         }
-        Err(why) => give_and_tell(alloc, alone::<S>(ReplyKind::Unread(why)), out, tally, true),
+    };
+    let goes_on = !is_quit(&command);
+    match step(rt, alloc, config, command, settings, link, library) {
+        Next::Say(response) => give_and_tell(alloc, response, out, tally, goes_on),
+        Next::Store(begun) => match store(
+            rt, alloc, config, begun, control, lines, out, link, library, clock, tally,
+        ) {
+            Ok(()) => Ok(goes_on),
+            Err(stopped) => Err(stopped),
+        },
     }
 }
 
@@ -81,7 +112,7 @@ fn give_and_tell<S, W: Sink, G: Tally<S>>(
 }
 
 /// Puts a reply whole, or stops; just before that a tally takes the answer that it gives.
-fn give<S, W: Sink, G: Tally<S>>(
+pub(crate) fn give<S, W: Sink, G: Tally<S>>(
     alloc: Global,
     response: Response<S>,
     out: &mut W,

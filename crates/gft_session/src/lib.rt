@@ -5,8 +5,8 @@
 //! text of every reply, `specs/Conversation.antt` says what a whole session is. A line goes from bytes to a
 //! command, to a step that changes the settings and names a reply, to that reply's bytes.
 //!
-//! SIZE and DELE ask the library. Transfers aren't built in yet: the lines that begin one are answered
-//! `504 Not built.` Nothing here reads a socket; listening is the link's.
+//! SIZE and DELE ask the library, STOR and ESTO store what the lanes that wait bring. Sending isn't built in
+//! yet: RETR and ERET are answered `504 Not built.` Nothing here reads a socket; listening is the link's.
 #![tactic(auto)]
 
 mod answering;
@@ -14,6 +14,8 @@ mod asking;
 mod choices;
 mod config;
 mod hearing;
+mod jobs;
+mod next;
 mod ports;
 mod reply_kind;
 mod response;
@@ -21,6 +23,7 @@ mod session;
 mod session_end;
 mod settings;
 mod stepping;
+mod storing;
 #[cfg(test)]
 mod tests;
 

@@ -124,7 +124,7 @@ pub(crate) fn release<K: Link>(link: &mut K, side: DataSide<K::In>)
 }
 
 /// Gives lanes back to their link, in order.
-fn give_back<K: Link>(link: &mut K, lanes: Vec<K::In>)
+pub(crate) fn give_back<K: Link>(link: &mut K, lanes: Vec<K::In>)
     requires { length lanes.items ≤ (K.state link.old).handed_out }
     ensures returned { Returns K.In.state (K.state link.old) (K.state link.new) lanes.items }
     ensures count { (K.state link.new).handed_out + length lanes.items ≡ (K.state link.old).handed_out }

@@ -1,11 +1,14 @@
 //! A whole session.
 
 ghost use Rattle.std.specs.Prelude.{◌≡◌, ◌≤◌};
+ghost use Rattle.gft_drive.specs.Words.{sent_by};
 ghost use Rattle.gft_session.specs.Brought.{output};
-ghost use Rattle.gft_session.specs.Conversation.{Closes, Converses, HasClosed, HasFault, IsConfig, IsSession};
+ghost use Rattle.gft_session.specs.Conversation.{Closes, Converses, HasClosed, HasFault, IsConfig};
+ghost use Rattle.gft_session.specs.Conversation.{IsHonestWith, IsSession};
+ghost use Rattle.gft_session.specs.Fit.{IsFit};
 ghost use Rattle.gft_session.specs.Conversation.{end_of};
 ghost use Rattle.gft_session.specs.Listeners.{HasHandedOut, KeepsCount};
-ghost use Rattle.gft_session.specs.Settings.{world};
+ghost use Rattle.gft_session.specs.Settings.{around_of, start_world, state_of, world};
 
 use crate::answering::{answer, say};
 use crate::config::Config;
@@ -20,6 +23,7 @@ use gft_outside::{Clock, Control, Link, Shelf};
 use gft_text::Lines;
 use std::alloc::Global;
 use std::sync::Wait;
+use std::thread::Threads;
 
 /// One connection's conversation: a greeting, and for each line the replies of the table.
 ///
@@ -35,9 +39,9 @@ pub fn run_session<
     K: Link,
     S: Shelf + Drop,
     T: Clock,
-    O: Origin,
+    O: Origin + Send,
     G: Tally<S>,
-    R: Wait,
+    R: Threads + Wait + Sync,
 >(
     rt: &R,
     alloc: Global,
@@ -45,16 +49,20 @@ pub fn run_session<
     out: &mut W,
     link: &mut K,
     library: &Library<S, O>,
-    _clock: &mut T,
+    clock: &mut T,
     config: &Config,
     tally: &mut G,
 ) -> SessionEnd
     requires config { IsConfig config.now }
     requires open { W.is_open out.old }
-    ensures session { IsSession (record { stripes = config.now.stripes; lane = K.In.state }) config.now.idle
+    requires honest { IsHonestWith
+        (around_of config.now K.In.state S.D.state (sent_by O.source O.orders O.fit))
+        (start_world (K.state link.old)) }
+    ensures session { IsSession
+        (around_of config.now K.In.state S.D.state (sent_by O.source O.orders O.fit)) config.now.idle
         result (K.state link.old) (K.state link.new) (C.state control.old) (C.state control.new)
         (output (W.written out.old) (G.told tally.old)) (output (W.written out.new) (G.told tally.new)) }
-    ensures clock { T.left _clock.new ≡ T.left _clock.old }
+    ensures clock { clock.new ≡ clock.old }
     ensures fault { HasFault result (C.state control.old).faults (C.state control.new).faults
         (W.faults out.old) (W.faults out.new) }
 {
@@ -66,6 +74,7 @@ pub fn run_session<
         out,
         link,
         library,
+        clock,
         config,
         tally,
         &mut settings,
@@ -75,13 +84,23 @@ pub fn run_session<
 }
 
 /// The same, but for the lanes that are left: the settings have them.
-fn converse<C: Control, W: Sink, K: Link, S: Shelf + Drop, O: Origin, G: Tally<S>, R: Wait>(
+fn converse<
+    C: Control,
+    W: Sink,
+    K: Link,
+    S: Shelf + Drop,
+    T: Clock,
+    O: Origin + Send,
+    G: Tally<S>,
+    R: Threads + Wait + Sync,
+>(
     rt: &R,
     alloc: Global,
     control: &mut C,
     out: &mut W,
     link: &mut K,
     library: &Library<S, O>,
+    clock: &mut T,
     config: &Config,
     tally: &mut G,
     settings: &mut Settings<K::In>,
@@ -89,12 +108,18 @@ fn converse<C: Control, W: Sink, K: Link, S: Shelf + Drop, O: Origin, G: Tally<S
     requires config { IsConfig config.now }
     requires open { W.is_open out.old }
     requires ours { HasHandedOut (world settings.old (K.state link.old)) }
-    ensures talk { Converses (record { stripes = config.now.stripes; lane = K.In.state }) config.now.idle
+    requires fit { IsFit K.In.state (state_of settings.old) }
+    requires honest { IsHonestWith
+        (around_of config.now K.In.state S.D.state (sent_by O.source O.orders O.fit))
+        (world settings.old (K.state link.old)) }
+    ensures talk { Converses
+        (around_of config.now K.In.state S.D.state (sent_by O.source O.orders O.fit)) config.now.idle
         result (world settings.old (K.state link.old)) (world settings.new (K.state link.new))
         (C.state control.old) (C.state control.new) (output (W.written out.old) (G.told tally.old))
         (output (W.written out.new) (G.told tally.new)) }
     ensures ours { KeepsCount (world settings.old (K.state link.old))
         (world settings.new (K.state link.new)) }
+    ensures clock { clock.new ≡ clock.old }
     ensures fault { HasFault result (C.state control.old).faults (C.state control.new).faults
         (W.faults out.old) (W.faults out.new) }
 {
@@ -109,15 +134,7 @@ fn converse<C: Control, W: Sink, K: Link, S: Shelf + Drop, O: Origin, G: Tally<S
             Err(end) => return close(alloc, out, end),
         }
         match answer(
-            rt,
-            alloc,
-            config.stripes,
-            lines.line(),
-            settings,
-            out,
-            link,
-            library,
-            tally,
+            rt, alloc, config, control, &mut lines, settings, out, link, library, clock, tally,
         ) {
             Ok(true) => {}
             Ok(false) => return SessionEnd::Quit,

@@ -6,16 +6,20 @@ use gft_base::OutOfMemory;
 use gft_book::{How, Use};
 use gft_core::Octets;
 use gft_drive::{Drive, MemoryDrive, MemorySink, Part, Unknown};
+use gft_eblock::{BadBlock, Header, encode};
 use gft_library::{Library, LibraryError, MemoryTally, NoTally, Word};
 use gft_outside::{
-    ControlItem, Listening, MemoryControl, MemoryLane, MemoryLink, MemoryShelf, NamedDrive, NoClock,
+    ControlItem, LaneItem, Listening, MemoryControl, MemoryLane, MemoryLink, MemoryShelf,
+    NamedDrive, NoClock,
 };
+use gft_pass::Cause;
 use gft_range::Range;
 use gft_reply::{Replies, Reply, ReplyLines};
 use gft_text::{HostPort, read_host_port, read_name};
 use std::alloc::Global;
 use std::sync::Wait;
 use std::test::Fail;
+use std::thread::Threads;
 
 const GREETING: &[u8] = b"220 GridFTP server ready.\r\n";
 
@@ -63,7 +67,7 @@ const CONFIG: Config = Config {
 
 /// A library of these files. The shelf's calls of these numbers fail.
 fn files_of(alloc: Global, drives: Vec<NamedDrive>, failing: Vec<u32>) -> Files {
-    let shelf = MemoryShelf::new(drives, 9, u32::MAX, Vec::new(alloc), failing);
+    let shelf = MemoryShelf::new(drives, 64, u32::MAX, Vec::new(alloc), failing);
     Library::new(alloc, shelf)
 }
 
@@ -77,7 +81,7 @@ fn hello(alloc: Global, failing: Vec<u32>) -> Result<Files, Fail> {
 }
 
 /// Runs a session with two stripes, which three silences in a row end, over an empty library.
-fn run<R: Wait>(
+fn run<R: Threads + Wait + Sync>(
     rt: &R,
     alloc: Global,
     control: &mut MemoryControl,
@@ -101,7 +105,7 @@ fn run<R: Wait>(
 }
 
 /// The same of a peer that says this.
-fn run_script<R: Wait>(
+fn run_script<R: Threads + Wait + Sync>(
     rt: &R,
     alloc: Global,
     script: &[u8],
@@ -116,7 +120,7 @@ fn run_script<R: Wait>(
 }
 
 /// The replies behind the greeting to a peer that says this, with so many lanes to come.
-fn replies<R: Wait>(
+fn replies<R: Threads + Wait + Sync>(
     rt: &R,
     alloc: Global,
     script: &[u8],
@@ -130,7 +134,7 @@ fn replies<R: Wait>(
 }
 
 /// The same behind a login.
-fn replies_in<R: Wait>(
+fn replies_in<R: Threads + Wait + Sync>(
     rt: &R,
     alloc: Global,
     script: &[u8],
@@ -228,16 +232,12 @@ fn settings_are_answered(rt: HostRuntime) -> Result<(), Fail> {
 #[test]
 fn other_lines_are_answered(rt: HostRuntime) -> Result<(), Fail> {
     let alloc = rt.alloc();
-    let rows: [(&[u8], &[u8]); 11] = [
+    let rows: [(&[u8], &[u8]); 7] = [
         (b"ALLO 10\r\n", b"202 ALLO is not needed.\r\n"),
         (b"PWD\r\n", b"257 \"/\" is the only folder.\r\n"),
         (b"CWD /\r\n", b"250 Folder is /.\r\n"),
         (b"CWD x\r\n", b"550 No such folder.\r\n"),
         (b"REST 0-5\r\n", b"350 Restart list noted.\r\n"),
-        (b"STOR a\r\n", b"504 Not built.\r\n"),
-        (b"ESTO A 5 a\r\n", b"504 Not built.\r\n"),
-        (b"RETR a\r\n", b"504 Not built.\r\n"),
-        (b"ERET P 0 5 a\r\n", b"504 Not built.\r\n"),
         (b"ABOR\r\n", b"225 No transfer in progress.\r\n"),
         (
             b"SPOR 127,0,0,1,200,10 127,0,0,1,200,11\r\n",
@@ -332,7 +332,7 @@ fn a_line_too_long_ends_it(rt: HostRuntime) -> Result<(), Fail> {
 
 /// How a session ends that hears these, where the polls and the puts of these numbers fail, and its
 /// replies.
-fn ending<R: Wait>(
+fn ending<R: Threads + Wait + Sync>(
     rt: &R,
     alloc: Global,
     items: Vec<ControlItem>,
@@ -423,7 +423,7 @@ fn listening_fails_where_a_lane_waits(rt: HostRuntime) -> Result<(), Fail> {
 
 /// The replies of a library behind the login to a peer that says this and goes, and what a tally with room
 /// for two answers took.
-fn answers<R: Wait>(
+fn answers<R: Threads + Wait + Sync>(
     rt: &R,
     alloc: Global,
     files: &Files,
@@ -553,6 +553,290 @@ fn refusals_of_the_library_have_texts(rt: HostRuntime) -> Result<(), Fail> {
     ];
     for (why, want) in rows {
         let text = ReplyKind::Refused(why).text(alloc)?;
+        assert_eq!(rt; text.as_slice(), want);
+    }
+    Ok(())
+}
+
+const BINARY: &[u8] = b"TYPE I\r\nMODE E\r\n";
+
+const BINARY_REPLIES: &[u8] = b"200 Type I.\r\n200 Mode E.\r\n";
+
+// A list that is kept goes with the next line that begins a transfer, and with no later one.
+#[test]
+fn transfers_are_refused_in_order(rt: HostRuntime) -> Result<(), Fail> {
+    let alloc = rt.alloc();
+    let rows: [(&[u8], &[u8]); 9] = [
+        (
+            b"MODE S\r\nSTOR .a\r\n",
+            b"200 Mode S.\r\n504 Set TYPE I and MODE E.\r\n",
+        ),
+        (
+            b"TYPE A\r\nRETR .a\r\n",
+            b"200 Type A.\r\n504 Set TYPE I and MODE E.\r\n",
+        ),
+        (
+            b"REST 0-5\r\nESTO A 0 .a\r\nESTO A 0 a\r\n",
+            b"350 Restart list noted.\r\n503 REST goes with STOR or RETR.\r\n503 SPAS or PASV first.\r\n",
+        ),
+        (
+            b"REST 0-5\r\nERET P 0 5 .a\r\nERET P 0 5 a\r\n",
+            b"350 Restart list noted.\r\n503 REST goes with STOR or RETR.\r\n503 PORT or SPOR first.\r\n",
+        ),
+        (b"STOR .a\r\n", b"553 Bad name.\r\n"),
+        (b"RETR a.gfr\r\n", b"553 Bad name.\r\n"),
+        (b"STOR a\r\n", b"503 SPAS or PASV first.\r\n"),
+        (b"RETR a\r\n", b"503 PORT or SPOR first.\r\n"),
+        (
+            b"PORT 127,0,0,1,200,10\r\nRETR a\r\n",
+            b"200 1 targets set.\r\n504 Not built.\r\n",
+        ),
+    ];
+    for (script, want) in rows {
+        let mut all = Vec::from_slice(alloc, BINARY)?;
+        all.extend_from_slice(script)?;
+        let said = replies_in(&rt, alloc, &all, 0)?;
+        let behind = said.strip_prefix(BINARY_REPLIES).unwrap_or(b"");
+        assert_eq!(rt; behind, want);
+    }
+    Ok(())
+}
+
+/// A lane on which one channel brings these blocks, each with its offset, and then, if `is_whole`, an EOF of
+/// total 1 and an EOD; it ends then.
+fn lane_of(alloc: Global, blocks: &[(u64, &[u8])], is_whole: bool) -> Result<MemoryLane, Fail> {
+    let mut bytes = Vec::new(alloc);
+    for &(offset, data) in blocks {
+        bytes.extend_from_slice(&header(0, data.len() as u64, offset))?;
+        bytes.extend_from_slice(data)?;
+    }
+    if is_whole {
+        bytes.extend_from_slice(&header(64, 0, 1))?;
+        bytes.extend_from_slice(&header(8, 0, 0))?;
+    }
+    let bytes = Octets::from_bytes(alloc, bytes.as_slice())?;
+    let items = vec![in alloc;
+        LaneItem::Opened(0),
+        LaneItem::Bytes { channel: 0, bytes },
+        LaneItem::Ended(0),
+    ]?;
+    Ok(MemoryLane::new(items, Vec::new(alloc)))
+}
+
+fn header(flags: u8, count: u64, offset: u64) -> [u8; 17] {
+    encode(&Header {
+        flags,
+        count,
+        offset,
+    })
+}
+
+/// A link of these lanes.
+fn link_over(alloc: Global, lanes: Vec<MemoryLane>) -> Result<MemoryLink, Fail> {
+    let mut listening = Vec::new(alloc);
+    for lane in lanes {
+        listening.push(Listening {
+            at: address(0),
+            lane,
+        })?;
+    }
+    Ok(MemoryLink::new(alloc, listening, Vec::new(alloc), Vec::new(alloc))?)
+}
+
+/// The replies behind the login and the settings to a peer that says this, and what a tally took.
+fn stored<R: Threads + Wait + Sync>(
+    rt: &R,
+    alloc: Global,
+    files: &Files,
+    link: &mut MemoryLink,
+    script: &[u8],
+) -> Result<(Vec<u8>, MemoryTally<MemoryShelf>), Fail> {
+    let items = vec![in alloc;
+        bytes(alloc, LOGIN)?,
+        bytes(alloc, BINARY)?,
+        bytes(alloc, script)?,
+    ]?;
+    let mut control = MemoryControl::new(items, Vec::new(alloc));
+    let mut out = sink(alloc, Vec::new(alloc))?;
+    let mut tally = MemoryTally::new(alloc, 4)?;
+    let config = Config {
+        stripes: 1,
+        marker_bytes: 5,
+        idle: 3,
+    };
+    run_session(
+        rt,
+        alloc,
+        &mut control,
+        &mut out,
+        link,
+        files,
+        &mut NoClock,
+        &config,
+        &mut tally,
+    );
+    let front = GREETING.len() + LOGIN_REPLIES.len() + BINARY_REPLIES.len();
+    let behind = out.bytes().get(front..).unwrap_or(b"");
+    Ok((Vec::from_slice(alloc, behind)?, tally))
+}
+
+const LISTENING: &[u8] = b"227 Entering Passive Mode (127,0,0,1,200,10)\r\n";
+
+#[test]
+fn a_file_is_stored(rt: HostRuntime) -> Result<(), Fail> {
+    let alloc = rt.alloc();
+    let files = files_of(alloc, Vec::new(alloc), Vec::new(alloc));
+    let lane = lane_of(alloc, &[(0, b"hello")], true)?;
+    let mut link = link_over(alloc, vec![in alloc; lane]?)?;
+    let script = b"PASV\r\nSTOR a.dat\r\nSIZE a.dat\r\nSTOR a.dat\r\n";
+    let (said, tally) = stored(&rt, alloc, &files, &mut link, script)?;
+    let want =
+        b"150 Opening data connections.\r\n226 Transfer complete.\r\n213 5\r\n503 SPAS or PASV first.\r\n";
+    assert_eq!(rt;
+        said.strip_prefix(LISTENING).unwrap_or(b""),
+        want.as_slice()
+    );
+    assert_eq!(rt;
+        tally.nth(0).map(|answer| *answer.word()),
+        Some(Word::Stored(5))
+    );
+    assert_eq!(rt;
+        tally.nth(1).map(|answer| *answer.word()),
+        Some(Word::Length(5))
+    );
+    assert_eq!(rt; (link.lanes_back().len(), link.handed_out()), (1, 0));
+    Ok(())
+}
+
+#[test]
+fn a_part_is_stored_and_then_the_rest(rt: HostRuntime) -> Result<(), Fail> {
+    let alloc = rt.alloc();
+    let files = files_of(alloc, Vec::new(alloc), Vec::new(alloc));
+    let lanes = vec![in alloc;
+        lane_of(alloc, &[(0, b"world")], true)?,
+        lane_of(alloc, &[(0, b"hello")], true)?,
+    ]?;
+    let mut link = link_over(alloc, lanes)?;
+    let (said, _) = stored(&rt, alloc, &files, &mut link, b"PASV\r\nESTO A 5 a.dat\r\n")?;
+    let want = b"150 Opening data connections.\r\n226 Part stored.\r\n";
+    assert_eq!(rt;
+        said.strip_prefix(LISTENING).unwrap_or(b""),
+        want.as_slice()
+    );
+    let script = b"PASV\r\nREST 5-10\r\nSTOR a.dat\r\nSIZE a.dat\r\n";
+    let (said, _) = stored(&rt, alloc, &files, &mut link, script)?;
+    let want =
+        b"350 Restart list noted.\r\n150 Opening data connections.\r\n226 Transfer complete.\r\n213 10\r\n";
+    assert_eq!(rt;
+        said.strip_prefix(LISTENING).unwrap_or(b""),
+        want.as_slice()
+    );
+    Ok(())
+}
+
+// The lane ends without its EOD, so that the transfer fails; the five bytes stay kept.
+#[test]
+fn a_lost_channel_is_told(rt: HostRuntime) -> Result<(), Fail> {
+    let alloc = rt.alloc();
+    let files = files_of(alloc, Vec::new(alloc), Vec::new(alloc));
+    let lanes = vec![in alloc;
+        lane_of(alloc, &[(0, b"hello")], false)?,
+        lane_of(alloc, &[(5, b"world")], true)?,
+    ]?;
+    let mut link = link_over(alloc, lanes)?;
+    let script = b"PASV\r\nSTOR a.dat\r\nSIZE a.dat\r\n";
+    let (said, _) = stored(&rt, alloc, &files, &mut link, script)?;
+    let want =
+        b"150 Opening data connections.\r\n426 Channel lost: lane 0, channel 0, 22 bytes taken.\r\n\
+550 Not complete.\r\n";
+    assert_eq!(rt;
+        said.strip_prefix(LISTENING).unwrap_or(b""),
+        want.as_slice()
+    );
+    let script = b"PASV\r\nREST 0-9\r\nSTOR a.dat\r\nREST 0-5\r\nSTOR a.dat\r\nSIZE a.dat\r\n";
+    let (said, _) = stored(&rt, alloc, &files, &mut link, script)?;
+    let want =
+        b"350 Restart list noted.\r\n554 REST names 5-9, which is not stored.\r\n350 Restart list noted.\r\n\
+150 Opening data connections.\r\n226 Transfer complete.\r\n213 10\r\n";
+    assert_eq!(rt;
+        said.strip_prefix(LISTENING).unwrap_or(b""),
+        want.as_slice()
+    );
+    Ok(())
+}
+
+#[test]
+fn failures_have_texts(rt: HostRuntime) -> Result<(), Fail> {
+    let alloc = rt.alloc();
+    let bad = BadBlock {
+        place: 17,
+        flags: 3,
+        count: 5,
+        offset: 9,
+    };
+    let missing = Some(Range { start: 5, end: 9 });
+    let rows: [(Cause, &[u8]); 15] = [
+        (
+            Cause::BadBlock {
+                lane: 0,
+                channel: 1,
+                bad,
+            },
+            b"426 Bad block at 17: flags 3, count 5, offset 9.\r\n",
+        ),
+        (
+            Cause::TwoTotals { kept: 1, new: 2 },
+            b"426 Two totals: 1 and 2.\r\n",
+        ),
+        (Cause::BadTotal { total: 0 }, b"426 Bad total: 0.\r\n"),
+        (
+            Cause::TooManyEods { total: 1 },
+            b"426 Too many EODs: total 1.\r\n",
+        ),
+        (
+            Cause::Idle { lane: 3, turns: 7 },
+            b"426 Idle: lane 3, turn 7.\r\n",
+        ),
+        (
+            Cause::Hole {
+                total: Some(2),
+                eods: 2,
+                missing,
+            },
+            b"426 Hole: total 2, EODs 2, first missing 5-9.\r\n",
+        ),
+        (
+            Cause::Hole {
+                total: None,
+                eods: 0,
+                missing: None,
+            },
+            b"426 Hole: total none, EODs 0, first missing none.\r\n",
+        ),
+        (
+            Cause::StreamTooLong { lane: 2 },
+            b"426 Stream too long: lane 2.\r\n",
+        ),
+        (
+            Cause::TooManyChannels {
+                lane: 1,
+                opened: 70,
+                live: 64,
+            },
+            b"426 Too many channels: lane 1, opened 70, live 64.\r\n",
+        ),
+        (Cause::Aborted, b"426 Aborted.\r\n"),
+        (Cause::ControlGone, b"426 Control lost.\r\n"),
+        (Cause::LinkFailed, b"425 Data connection failed.\r\n"),
+        (Cause::DriveFailed, b"451 Drive failed.\r\n"),
+        (
+            Cause::RangesFull { kept: 16_384 },
+            b"452 Too many ranges: 16384.\r\n",
+        ),
+        (Cause::Memory, b"455 Out of memory.\r\n"),
+    ];
+    for (cause, want) in rows {
+        let text = ReplyKind::Failed(cause).text(alloc)?;
         assert_eq!(rt; text.as_slice(), want);
     }
     Ok(())
