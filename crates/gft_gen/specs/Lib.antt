@@ -1,0 +1,5 @@
+pub mod Attempts
+pub mod Codes
+pub mod Making
+pub mod Summary
+pub mod Words

@@ -1,0 +1,4 @@
+mod EachLemmas
+mod GeneratorLemmas
+mod LaneLemmas
+mod StreamLemmas
