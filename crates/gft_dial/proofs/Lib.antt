@@ -1,0 +1,2 @@
+mod DialLemmas
+pub mod Lemmas
