@@ -1,27 +1,31 @@
 -- What a lock knows stays true.
-use Rattle.std.proofs.Common.{◌≡◌, ℕ, ◌+◌, ◌<◌, List, length, Some, None, refl, sym, ap, ◌∙◌, subst, ⊎_elim, inl, inr, arith}
+use Rattle.std.proofs.Common.{◌≡◌, ℕ, ◌+◌, ◌<◌, List, [], ◌++◌, length, Some, None, refl, sym, ap, ◌∙◌, subst, ⊎_elim, inl, inr, arith}
 use Rattle.std.specs.Prelude.{Bool, true, false, if◌then◌else◌, Option, Result, IsSome, IfSome, OnErr}
+use Rattle.std.proofs.lemmas.List.{append_assoc, append-nil}
 use Rattle.std.proofs.lemmas.Option.{none-some}
 use Rattle.atomic_table.specs.Seated.{TableId}
 use Rattle.gft_range.specs.declared.Range.{Range}
 use Rattle.gft_range.specs.Words.{HasOffset}
-use Rattle.gft_drive.specs.Words.{Image, Sent, total_of}
+use Rattle.gft_base.specs.Words.{Rose}
+use Rattle.gft_drive.specs.Words.{DriveState, Image, Sent, total_of}
+use Rattle.gft_herald.specs.Words.{LineId, Pushed, SamePushed}
 use Rattle.gft_eod.specs.Words.{eod_refusal, eof_refusal}
 use Rattle.gft_keep.specs.declared.KeepError.{KeepError}
 use Rattle.gft_keep.specs.declared.Standing.TheVariants.{Whole}
-use Rattle.gft_keep.specs.Words.{IsKeep, KeepState}
+use Rattle.gft_keep.specs.Words.{IsKeep, KeepState, keep_of}
 use Rattle.gft_pass.specs.declared.Cause.{Cause}
 use Rattle.gft_pass.specs.declared.Cause.TheVariants.{DriveFailed}
 use Rattle.gft_pass.specs.Words.{AllPasses, Lane, cause_of_count}
 use Rattle.gft_book.specs.declared.cause.Stop.{Stop}
+use Rattle.gft_book.specs.declared.mark.Mark.{Mark}
 use Rattle.gft_book.specs.declared.transfer.Transfer.{Transfer}
 use Rattle.gft_book.specs.declared.transfer.Stage.{Stage}
 use Rattle.gft_book.specs.declared.transfer.Stage.TheVariants.{Rest, Reading, Storing}
-use Rattle.gft_book.specs.Book.{BookState, InTransfer, IsLanePass, IsPass, IsRunning, Moving, cause_of, left_out, rest_of, transfer_of}
+use Rattle.gft_book.specs.Book.{BookState, InTransfer, IsLanePass, IsPass, IsRunning, IsStoring, Moving, Seen, book_of, cause_of, left_out, named_by, rest_of, transfer_of}
 use Rattle.gft_book.specs.Facts.{IsBook, IsTransfer, standing_after}
 use Rattle.gft_book.specs.Keeping.{Keeps, KeepsByte, byte_read}
-use Rattle.gft_book.specs.Calls.{CarriesOn, FindsFailed, HasEodLeft, IsNext, IsOfSource, KeepsCause, KeepsFirst, NotesEnd, RefusesBlock, RefusesEod, RefusesEof, SameTransfer, SendsBlock, SendsEod, SendsTotal, StopsBlock, StopsEod, StopsEof, as_stopped, cause_of_keep}
-use Rattle.gft_book.specs.Live.{BlockIn, EodIn, IsLaneOf, IsLive, IsPassOf, IsStarted, KeptSince, Learns, LearnsCount, SamePass, Start, TotalIn, start_at, start_now, start_of}
+use Rattle.gft_book.specs.Calls.{CarriesOn, FindsFailed, HasEodLeft, IsNext, IsOfSource, KeepsCause, KeepsFirst, MarksOnly, NotesEnd, RefusesBlock, RefusesEod, RefusesEof, SameTransfer, SendsBlock, SendsEod, SendsTotal, StopsBlock, StopsEod, StopsEof, as_stopped, cause_of_keep}
+use Rattle.gft_book.specs.Live.{BlockIn, EodIn, FillsLine, IsLaneOf, IsLive, IsPassOf, IsStarted, KeepsTotal, KeptSince, Learns, LearnsCount, LineStart, MakesMarks, SamePass, Start, TotalIn, start_at, start_now, start_of}
 use Rattle.gft_book.proofs.ChoiceLemmas.{if_some, is_there, on_err}
 use Rattle.gft_book.proofs.KeepLemmas.{Keeps-same, held_byte}
 use Rattle.gft_book.proofs.TransferLemmas.{moved}
@@ -214,3 +218,44 @@ learns_eod r old new before after h =
     (λ (found : FindsFailed before after m.before m.after). inl (ap (λ (p : Lane). p.count) found.moves.pass))
     (λ (no_ : RefusesEod before after m.before m.after). inr (cause_of_count no_.error, record { count = m.before.count; error = no_.error; refused = no_.refused; kept = refl }, ap (λ (p : Lane). p.count) no_.fails.moves.pass))
     m.so) h
+
+-- ---- marks
+
+-- a mark leaves what a lock knows
+pub IsLive-marks : {D : Type 0} (state : D → DriveState) (start : Start) (old new : Seen D) → MarksOnly old new → IsLive start (book_of state old) → IsLive start (book_of state new)
+IsLive-marks state start old new only live = record {
+  transfer = subst (λ (s : Stage). InTransfer (IsStarted start) s) (sym only.stage) live.transfer;
+  kept = subst (λ k. KeptSince start (keep_of state k)) (sym only.keep) live.kept;
+  failed = λ is. subst (λ k. Rose start.faults (keep_of state k).drive.faults) (sym only.keep) (live.failed (ap cause_of (sym only.stage) ∙ is));
+}
+
+pub KeepsTotal-marks : {D : Type 0} (start : Start) (old new : Seen D) → MarksOnly old new → KeepsTotal start old.stage → KeepsTotal start new.stage
+KeepsTotal-marks start old new only keeps = subst (λ (s : Stage). KeepsTotal start s) (sym only.stage) keeps
+
+pub FillsLine-same : (start : LineStart) (old new : List Mark) (pusher : Pushed) → new ≡ old → FillsLine start old pusher → FillsLine start new pusher
+FillsLine-same start old new pusher same fills = subst (λ (l : List Mark). FillsLine start l pusher) (sym same) fills
+
+pub FillsLine-makes : (start : LineStart) (old new : List Mark) (before after : Pushed) → FillsLine start old before → MakesMarks old new before after → FillsLine start new after
+FillsLine-makes start old new before after fills makes = record {
+  line = fills.line ∙ ap (λ (l : LineId). Some l) (sym makes.line);
+  marks = makes.marks ∙ ap (λ (l : List (List Range)). l ++ makes.made) fills.marks ∙ append_assoc start.marked before.marks makes.made ∙ ap (λ (l : List (List Range)). start.marked ++ l) (sym makes.pushed);
+}
+
+pub FillsLine-quiet : (start : LineStart) (marks : List Mark) (before after : Pushed) → SamePushed before after → FillsLine start marks before → FillsLine start marks after
+FillsLine-quiet start marks before after same fills = record {
+  line = fills.line ∙ ap (λ (l : LineId). Some l) (sym same.0);
+  marks = fills.marks ∙ ap (λ (l : List (List Range)). start.marked ++ l) (sym same.1);
+}
+
+-- a line into which nothing was pushed
+pub FillsLine-new : (marks : List Mark) (pusher : Pushed) → pusher.marks ≡ [] → FillsLine (record { line = Some pusher.line; marked = named_by marks }) marks pusher
+FillsLine-new marks pusher none = record {
+  line = refl;
+  marks = sym (ap (λ (l : List (List Range)). named_by marks ++ l) none ∙ append-nil (named_by marks));
+}
+
+-- a transfer that a lock knows is there
+pub IsLive-storing : (start : Start) (book : BookState) → IsLive start book → IsStoring book.stage
+IsLive-storing start book live =
+    let h = there (IsStarted start) book.stage live.transfer in
+    subst (λ (s : Stage). IsStoring s) (sym h.is) refl

@@ -9,6 +9,7 @@ use Rattle.gft_drive.specs.Words.{Sent}
 use Rattle.gft_keep.specs.declared.Standing.{Standing}
 use Rattle.gft_keep.specs.declared.Standing.TheVariants.{Whole, Emptying, Torn}
 use Rattle.gft_keep.specs.Words.{EachImage, IsKeep, KeepState}
+use Rattle.gft_herald.specs.Words.{IsNamed}
 use Rattle.gft_core.specs.declared.CoreEvent.{CoreEvent}
 use Rattle.gft_core.specs.declared.CoreEvent.TheVariants.{Mark}
 use Rattle.gft_core.specs.Words.{held, since}
@@ -65,6 +66,9 @@ take_most [] zero = omega arith
 take_most [] (suc n) = omega arith
 take_most (r ∷ rs) zero = omega arith
 take_most (r ∷ rs) (suc n) = let rest = take_most rs n in omega (arith, rest)
+
+pub take_named : (rs : List Range) → 0 < length rs → IsNamed (take MAX_ITEMS rs)
+take_named rs some = (take_some rs MAX_ITEMS some (omega arith), take_most rs MAX_ITEMS)
 
 -- the transfer of a stage that has one
 record HasTransfer (stage : Stage) : Type 0 where

@@ -1,5 +1,6 @@
 -- What contracts see of a Book.
-use Rattle.std.specs.Prelude.{◌≡◌, ℕ, ◌+◌, ◌-◌, ◌^◌, ◌<◌, min, List, [], length, Option, Some, None, IsSome}
+use Rattle.std.specs.Prelude.{◌≡◌, ℕ, ◌+◌, ◌-◌, ◌^◌, ◌<◌, min, List, [], length, map}
+use Rattle.std.specs.Prelude.{Option, Some, None, IsSome}
 use Rattle.atomic_table.specs.Seated.{TableId}
 use Rattle.gft_range.specs.declared.Range.{Range}
 use Rattle.gft_eod.specs.Words.{IsMet}
@@ -115,3 +116,7 @@ HasAllPasses stage passes = InTransfer (λ t. AllPasses t.roster.table (length t
 -- a count that stands still at its type's end
 abbrev pub up_to_last : ℕ → ℕ
 up_to_last n = min n (2 ^ 64 - 1)
+
+-- the ranges that each of these marks names
+abbrev pub named_by : List Mark → List (List Range)
+named_by marks = map (λ mark. mark.ranges.ranges) marks

@@ -1,5 +1,5 @@
 -- What a lock knows of the Book in it.
-use Rattle.std.specs.Prelude.{◌≡◌, ◌⊎◌, ℕ, ◌+◌, ◌<◌, ◌≤◌, List, [], length}
+use Rattle.std.specs.Prelude.{◌≡◌, ◌⊎◌, ℕ, ◌+◌, ◌<◌, ◌≤◌, List, [], ◌++◌, length}
 use Rattle.std.specs.Prelude.{IfSome, Option, Some, None, IsSome}
 use Rattle.atomic_table.specs.Seated.{TableId}
 use Rattle.gft_base.specs.Words.{Rose}
@@ -11,16 +11,18 @@ use Rattle.gft_eod.specs.declared.EodError.{EodError}
 use Rattle.gft_eod.specs.declared.TheConstants.{MAX_EODS}
 use Rattle.gft_keep.specs.Words.{KeepState}
 use Rattle.gft_core.specs.Words.{held}
+use Rattle.gft_herald.specs.Words.{LineId, Pushed}
 use Rattle.gft_pass.specs.declared.Cause.{Cause}
 use Rattle.gft_pass.specs.declared.Cause.TheVariants.{BadTotal, DriveFailed, TooManyEods, TwoTotals}
 use Rattle.gft_pass.specs.declared.Numbers.{Numbers}
 use Rattle.gft_pass.specs.Words.{Lane, cause_of_count}
+use Rattle.gft_book.specs.declared.mark.Mark.{Mark}
 use Rattle.gft_book.specs.declared.usage.How.{How}
 use Rattle.gft_book.specs.declared.usage.How.TheVariants.{Esto}
 use Rattle.gft_book.specs.declared.transfer.Transfer.{Transfer}
 use Rattle.gft_book.specs.declared.transfer.Stage.{Stage}
 use Rattle.gft_book.specs.declared.transfer.Stage.TheVariants.{Storing}
-use Rattle.gft_book.specs.Book.{BookState, InTransfer, cause_of, left_out}
+use Rattle.gft_book.specs.Book.{BookState, InTransfer, cause_of, left_out, named_by}
 use Rattle.gft_book.specs.Calls.{HasEodLeft, IsNext, IsOfSource, as_stopped, with_cause}
 use Rattle.gft_book.specs.Keeping.{NeverFalls, byte_read}
 
@@ -163,3 +165,26 @@ pub record IsRefusalOf (refusal : Count → Option EodError) (cause : Cause) : T
 
 abbrev pub LearnsCount : (Count → Option EodError) → Numbers → Numbers → Type 0
 LearnsCount refusal before after = Learns (IsRefusalOf refusal) before after
+
+-- ---- the line of marks
+
+-- the transfer's line, and what the Book's marks named, when the lock is made; plain data
+pub record LineStart : Type 0 where
+  pub line : Option LineId
+  pub marked : List (List Range)
+
+-- no line
+abbrev pub no_line : LineStart
+no_line = record { line = None; marked = [] }
+
+-- the marks that were made since are those that were pushed into the line
+pub record FillsLine (start : LineStart) (listed : List Mark) (pusher : Pushed) : Type 0 where
+  pub line : start.line ≡ Some pusher.line
+  pub marks : named_by listed ≡ start.marked ++ pusher.marks
+
+-- marks were made, and pushed into the line
+pub record MakesMarks (old new : List Mark) (before after : Pushed) : Type 0 where
+  pub made : List (List Range)
+  pub line : after.line ≡ before.line
+  pub marks : named_by new ≡ named_by old ++ made
+  pub pushed : after.marks ≡ before.marks ++ made

@@ -5,7 +5,7 @@ pub use Rattle.gft_book.specs.Begin.{MayAsk, NamesSome, NotBegun, OpensAfresh, O
 pub use Rattle.gft_book.specs.Begin.{RefusedFor, broken_by, known_of}
 pub use Rattle.gft_book.specs.Book.{BookState, HasAllPasses, HasKeptCause, HasMetTotal, InTransfer}
 pub use Rattle.gft_book.specs.Book.{IsLanePass, IsPass, IsRunning, IsStoring, Moving, Seen, book_of}
-pub use Rattle.gft_book.specs.Book.{cause_of, left_out, rest_of, transfer_of, up_to_last, usage_of}
+pub use Rattle.gft_book.specs.Book.{cause_of, left_out, named_by, rest_of, transfer_of, up_to_last, usage_of}
 pub use Rattle.gft_book.specs.Calls.{AwaitsMore, CallsOn, CarriesOn, ChangesPass, FindsEnded, FindsFailed}
 pub use Rattle.gft_book.specs.Calls.{HasEodLeft, IsNext, NotesEnd, StageOnly}
 pub use Rattle.gft_book.specs.Calls.{IsOfSource, IsOutside, KeepsCause, KeepsFirst, Marked, MarksOnly}
@@ -25,6 +25,7 @@ pub use Rattle.gft_book.specs.Fits.{stored_events}
 pub use Rattle.gft_book.specs.Keeping.{HoldsKept, Keeps, KeepsByte, KeepsThrough, NeverFalls, byte_read}
 pub use Rattle.gft_book.specs.Live.{BlockIn, EodIn, IsLaneOf, IsLive, IsPassOf, IsStarted, KeptSince, Learns}
 pub use Rattle.gft_book.specs.Live.{IsRefusalOf, LearnsCount, SamePass, Start, TotalIn, no_start, start_now}
-pub use Rattle.gft_book.specs.Live.{HasOneTotal, IsCauseOfTotal, KeepsTotal, start_at, start_of}
+pub use Rattle.gft_book.specs.Live.{FillsLine, HasOneTotal, IsCauseOfTotal, KeepsTotal, LineStart, MakesMarks}
+pub use Rattle.gft_book.specs.Live.{no_line, start_at, start_of}
 pub use Rattle.gft_book.specs.Readers.{AreTwins, BeginsRead, IsReadable, MayAskLength, MayRead, NotRead, OnlyReads}
 pub use Rattle.gft_book.specs.Readers.{ReadsEvents, RefusedRead, one_reader_fewer, one_reader_more}

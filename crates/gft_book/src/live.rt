@@ -5,34 +5,44 @@ ghost use Rattle.gft_keep.specs.declared.KeepError.{KeepError};
 ghost use Rattle.gft_keep.specs.Words.{IsBlock};
 ghost use Rattle.gft_book.specs.Book.{book_of};
 ghost use Rattle.gft_book.specs.Calls.{IsOutside, as_stopped, cause_of_keep, more_bytes, one_eod, with_total};
-ghost use Rattle.gft_book.specs.Live.{BlockIn, EodIn, IsLaneOf, IsLive, IsPassOf, KeepsTotal, Learns};
-ghost use Rattle.gft_book.specs.Live.{LearnsCount, SamePass, TotalIn};
+ghost use Rattle.gft_book.specs.Live.{BlockIn, EodIn, FillsLine, IsLaneOf, IsLive, IsPassOf, KeepsTotal};
+ghost use Rattle.gft_book.specs.Live.{Learns, LearnsCount, SamePass, TotalIn};
 
 use crate::book::Book;
 use crate::cause::Stop;
 use gft_drive::{Drive, Origin};
+use gft_herald::Pusher;
 use gft_pass::{Cause, Pass};
 use std::marker::{Brand, Model, PhantomData};
 use std::sync::Mutex;
 
 /// Names one transfer in a type. It has no value; the call that makes the lock picks its meaning.
 pub trait Run {
-    ghost use Rattle.gft_book.specs.Live.{Start};
+    ghost use Rattle.gft_book.specs.Live.{LineStart, Start};
 
     /// What is known when the lock is made.
     ghost start: { Start };
+
+    /// And of the line of marks.
+    ghost line: { LineStart };
 }
 
 impl Run for Brand {
-    ghost use Rattle.gft_book.specs.Live.{no_start};
+    ghost use Rattle.gft_book.specs.Live.{no_line, no_start};
 
     ghost start = { no_start };
+
+    ghost line = { no_line };
 }
 
-/// A Book that stores the transfer of `N`, which runs or has failed. Contracts see the Book.
+/// A Book that stores the transfer of `N`, which runs or has failed, with the end of its line. Contracts see
+/// the Book. Each mark that it makes goes into the line.
 #[derive(Drop)]
 pub struct Live<D: Drive + Drop, O: Origin, N: Run> {
     book: Book<D, O>,
+    pusher: Pusher,
+    /// A mark is due once so many bytes were booked since the last.
+    every: u64,
     run: PhantomData<N>,
 }
 
@@ -41,35 +51,47 @@ pub type Shared<D, O, N> = Mutex<Live<D, O, N>>;
 
 impl<D: Drive + Drop, O: Origin, N: Run> Model for Live<D, O, N> {
     ghost use Rattle.gft_book.specs.Book.{Seen, book_of};
-    ghost use Rattle.gft_book.specs.Live.{IsLive, KeepsTotal};
+    ghost use Rattle.gft_book.specs.Live.{FillsLine, IsLive, KeepsTotal};
 
     ghost Value = { Seen D };
 
     ghost view = { λ l. l.book };
 
-    ghost invariant = { λ l. IsLive N.start (book_of D.state l.book) × KeepsTotal N.start l.book.stage };
+    ghost invariant = { λ l. IsLive N.start (book_of D.state l.book) × KeepsTotal N.start l.book.stage
+        × FillsLine N.line l.book.marks l.pusher };
 }
 
 impl<D: Drive + Drop, O: Origin, N: Run> Live<D, O, N> {
-    /// A Book for the lock of its transfer.
-    pub fn new(book: Book<D, O>) -> Live<D, O, N>
+    /// A Book for the lock of its transfer. A mark is due once `every` bytes were booked since the last.
+    pub fn new(book: Book<D, O>, pusher: Pusher, every: u64) -> Live<D, O, N>
         requires live { IsLive N.start (book_of D.state book) }
         requires total { KeepsTotal N.start book.stage }
+        requires line { FillsLine N.line book.marks pusher }
         ensures book { result ≡ book }
     {
         Live {
             book,
+            pusher,
+            every,
             run: PhantomData,
         }
     }
 
-    /// Takes the Book out again.
-    pub fn into_book(self) -> Book<D, O>
-        ensures book { result ≡ self }
-        ensures live { IsLive N.start (book_of D.state result) }
-        ensures total { KeepsTotal N.start result.stage }
+    /// Takes the Book out again, and the end of the line.
+    pub fn into_parts(self) -> (Book<D, O>, Pusher)
+        ensures book { result.0 ≡ self }
+        ensures live { IsLive N.start (book_of D.state result.0) }
+        ensures total { KeepsTotal N.start result.0.stage }
+        ensures line { FillsLine N.line result.0.marks result.1 }
     {
-        self.book
+        (self.book, self.pusher)
+    }
+
+    /// Tells the teller that no mark comes any more.
+    pub fn close(&mut self)
+        ensures same { self.new ≡ self.old }
+    {
+        self.pusher.close();
     }
 
     /// `Book::awaits_more`, for a mover that knows its transfer by the type of the lock.
@@ -90,7 +112,8 @@ impl<D: Drive + Drop, O: Origin, N: Run> Live<D, O, N> {
         self.book.turns()
     }
 
-    /// `Book::store`, for a mover that knows its transfer by the type of the lock.
+    /// `Book::store`, for a mover that knows its transfer by the type of the lock; then a mark is made, if it is
+    /// due and the line has room for it.
     pub fn store(&mut self, pass: &mut Pass, offset: u64, bytes: &[u8]) -> Result<u64, Stop>
         requires pass { IsLaneOf N.start pass.old }
         requires block { IsBlock offset bytes.now }
@@ -103,6 +126,7 @@ impl<D: Drive + Drop, O: Origin, N: Run> Live<D, O, N> {
         self.book.facts();
         let answer = self.book.store(pass, offset, bytes);
         self.book.facts();
+        self.book.mark_into(&mut self.pusher, self.every);
         answer
     }
 

@@ -1,13 +1,14 @@
-ghost use Rattle.std.specs.Prelude.{◌≡◌, IfOk, IfSome};
+ghost use Rattle.std.specs.Prelude.{◌≡◌, [], IfOk, IfSome};
 ghost use Rattle.gft_book.specs.Begin.{NamesSome};
 ghost use Rattle.gft_book.specs.Book.{HasAllPasses, IsLanePass, IsStoring, Moving, book_of};
 ghost use Rattle.gft_book.specs.Calls.{SameTransfer};
-ghost use Rattle.gft_book.specs.Live.{IsLaneOf, IsLive, KeepsTotal, SamePass};
+ghost use Rattle.gft_book.specs.Live.{FillsLine, IsLaneOf, IsLive, KeepsTotal, SamePass};
 ghost use Rattle.gft_book.specs.declared.transfer.Stage.TheVariants.{Rest};
 
 use super::*;
 use gft_base::LIMIT;
 use gft_drive::{CallKind, Drive, FailAt, MemoryDrive, Part, Unknown};
+use gft_herald::{Next, Pusher, line};
 use gft_keep::{Damage, Keep};
 use gft_range::{Range, RangeSet};
 use std::alloc::Global;
@@ -533,14 +534,16 @@ fn call_locked<D: Drive + Drop, N: Run, R: Wait>(
 fn lend<D: Drive + Drop + Send, N: Run + Send + Sync, R: Threads + Wait + Sync>(
     rt: &R,
     book: Book<D, Unknown>,
+    pusher: Pusher,
     pass: &mut Pass,
 ) -> (Book<D, Unknown>, [bool; 7])
     requires live { IsLive N.start (book_of D.state book) }
     requires total { KeepsTotal N.start book.stage }
+    requires line { FillsLine N.line book.marks pusher }
     requires pass { IsLaneOf N.start pass.old }
     requires known { IfSome N.start.total (λ known. 1 ≡ known) }
 {
-    let shared = Mutex::new(Live::<D, Unknown, N>::new(book));
+    let shared = Mutex::new(Live::<D, Unknown, N>::new(book, pusher, 1));
     let lock = &shared;
     let (told, ()) = thread::join(
         rt,
@@ -549,16 +552,18 @@ fn lend<D: Drive + Drop + Send, N: Run + Send + Sync, R: Threads + Wait + Sync>(
         { call_locked(rt, lock, pass) },
         || (),
     );
-    (shared.into_inner().into_book(), told)
+    (shared.into_inner().into_parts().0, told)
 }
 
 /// Lends a Book and the first of its passes.
 fn lend_first<D: Drive + Drop + Send, R: Threads + Wait + Sync>(
     rt: &R,
     book: Book<D, Unknown>,
+    pusher: Pusher,
     passes: &mut Vec<Pass>,
 ) -> (Book<D, Unknown>, [bool; 7])
-    requires { HasAllPasses book.stage passes.old.items }
+    requires passes { HasAllPasses book.stage passes.old.items }
+    requires line { pusher.marks ≡ [] }
 {
     if passes.len() < 2 {
         return (book, [false; 7]);
@@ -566,7 +571,7 @@ fn lend_first<D: Drive + Drop + Send, R: Threads + Wait + Sync>(
     if book.running() {
         if let Some(pass) = passes.get_mut(0) {
             book.facts();
-            return lend::<D, Brand, R>(rt, book, pass);
+            return lend::<D, Brand, R>(rt, book, pusher, pass);
         }
     }
     (book, [false; 7])
@@ -576,9 +581,15 @@ fn lend_first<D: Drive + Drop + Send, R: Threads + Wait + Sync>(
 fn a_book_is_lent_to_another_thread(rt: HostRuntime) -> Result<(), Fail> {
     let mut book = new_book(rt.alloc(), &[])?;
     let mut passes = begin(&mut book, How::Fresh)?;
-    let (book, told) = lend_first(&rt, book, &mut passes);
+    let (pusher, mut taker) = line(rt.alloc(), 8)?;
+    let (book, told) = lend_first(&rt, book, pusher, &mut passes);
     assert_eq!(rt; told, [true, true, true, true, false, false, true]);
     assert!(rt; book.met() && !book.running());
+    assert!(rt; book.keeps_some() && book.mark_count() == 1);
+    let Next::Mark(ranges) = taker.next(&rt) else {
+        return Err(Fail::new("no mark was made"));
+    };
+    assert_eq!(rt; ranges.end(), 5);
     Ok(())
 }
 

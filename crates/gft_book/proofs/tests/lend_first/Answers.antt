@@ -5,7 +5,7 @@ use Rattle.gft_book.specs.Book.{BookState, book_of}
 use Rattle.gft_book.specs.Live.{start_at}
 use Rattle.gft_book.specs.declared.transfer.Stage.{Stage}
 use Rattle.gft_book.specs.declared.transfer.Stage.TheVariants.{Rest, Reading, Storing}
-use Rattle.gft_book.proofs.LiveLemmas.{IsLaneOf-lane, IsLive-running}
+use Rattle.gft_book.proofs.LiveLemmas.{FillsLine-new, IsLaneOf-lane, IsLive-running}
 use Rattle.gft_book.proofs.TotalLemmas.{KeepsTotal-start}
 use Rattle.gft_book.proofs.PassesLemmas.{HasAllPasses-lane}
 use Rattle.gft_book.proofs.tests.lend_first.Goals as goal
@@ -32,4 +32,7 @@ lend-requires-clause-pass g c κs within =
     let i = c.in-Some.ensures.item in
     let at = at_index passes 0 c.in-Some.pass.now i.3.0 i.1 in
     IsLaneOf-lane (book_of g.D.Drive.state c.args.book) c.in-Some.pass.now
-    (HasAllPasses-lane c.args.book.stage passes 0 c.in-Some.pass.now c.requires at (omega (arith, c.if-len-lt2.false, c.len.ensures)))
+    (HasAllPasses-lane c.args.book.stage passes 0 c.in-Some.pass.now c.requires.passes at (omega (arith, c.if-len-lt2.false, c.len.ensures)))
+
+pub lend-requires-clause-line : goal.lend-requires-clause-line
+lend-requires-clause-line g c κs within = FillsLine-new c.args.book.marks c.args.pusher c.requires.line

@@ -1,5 +1,5 @@
 use Rattle.gft_book.specs.Book.{book_of}
-use Rattle.gft_book.proofs.LiveLemmas.{IsLive-carries_on, learns_eod}
+use Rattle.gft_book.proofs.LiveLemmas.{FillsLine-same, IsLive-carries_on, learns_eod}
 use Rattle.gft_book.proofs.TotalLemmas.{total_eod}
 use Rattle.gft_book.proofs.live.Live.eod.Goals as goal
 
@@ -7,6 +7,7 @@ pub invariant_of-self : goal.invariant_of-self
 invariant_of-self g c = (
   IsLive-carries_on g.N.Run.start _ _ c.facts.ensures.keep c.self.invariant.0 c.eod-answer.ensures.calls_on.goes_on,
   total_eod g.N.Run.start c.eod-answer.result c.self.inside.book.stage c.eod-answer.new.self.stage c.args.pass.now c.eod-answer.new.pass c.eod-answer.ensures.taken c.eod-answer.ensures.stopped c.self.invariant.1,
+  FillsLine-same g.N.Run.line _ _ _ c.eod-answer.ensures.calls_on.marks c.self.invariant.2,
 )
 
 pub returns-clause-stopped : goal.returns-clause-stopped
