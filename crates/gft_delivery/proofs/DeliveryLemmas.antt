@@ -1,6 +1,6 @@
 -- How a delivery ends, by what its transfer says.
 use Rattle.std.proofs.Common.{◌≡◌, ℕ, zero, suc, ◌^◌, ◌<◌, ◌≤◌, List, [], ◌∷◌, length, reverse, Some, Ok, Err, refl, ap, ◌∙◌, sym, subst, inl, inr, arith}
-use Rattle.std.specs.Prelude.{IfSome, IsSome, MatchResult, OnOk, Option, Result, slice_get}
+use Rattle.std.specs.Prelude.{Bool, IfSome, IsSome, false, MatchResult, OnOk, Option, Result, slice_get}
 use Rattle.std.proofs.lemmas.List.{reverse-reverse}
 use Rattle.std.proofs.lemmas.Option.{same_Some, slice_get_within}
 use Rattle.gft_base.specs.declared.TheConstants.{LIMIT}
@@ -66,10 +66,10 @@ module _ {L : Type 0} (state : L → LaneState) (sent : List ℕ → Option Sent
   same_source : (s : Sent) → sent start.label ≡ Some s → d.from ≡ s
   same_source s told = same_Some d.from s (sym d.source ∙ told)
 
-  ends_well : (limits : Limits) → IsPatient limits → (back : List L) (now : KeepState) (end : Result SettledFile Cause)
-      → OnOk end (ReadsAs d.from.source now) → Receives state limits start lanes back now end → WholeLanesEndWell state sent limits start lanes back end
-      → MatchResult end (λ file. ReadsAs d.from.source now × (file.len ≡ length d.from.source)) (λ cause. NoneFailed state lanes back → IsExcused cause)
-  ends_well limits patient back now (Ok file) reads receives complete = (
+  ends_well : (limits : Limits) → IsPatient limits → (back : List L) (now : KeepState) (end : Result SettledFile Cause) (put_failed : Bool)
+      → OnOk end (ReadsAs d.from.source now) → Receives state limits start lanes back now end put_failed → (put_failed ≡ false → WholeLanesEndWell state sent limits start lanes back end)
+      → MatchResult end (λ file. ReadsAs d.from.source now × (file.len ≡ length d.from.source)) (λ cause. put_failed ≡ false → NoneFailed state lanes back → IsExcused cause)
+  ends_well limits patient back now (Ok file) put_failed reads receives complete = (
     reads,
     elim receives [
       | inl run ↦
@@ -78,8 +78,8 @@ module _ {L : Type 0} (state : L → LaneState) (sent : List ℕ → Option Sent
       | inr refused ↦ absurd (cc refused.0)
     ],
   )
-  ends_well limits patient back now (Err cause) reads receives complete = λ calm.
-      complete d.from d.rest d.source d.stor d.tells patient.shift patient.idle (runs_whole back calm)
+  ends_well limits patient back now (Err cause) put_failed reads receives complete = λ quiet calm.
+      complete quiet d.from d.rest d.source d.stor d.tells patient.shift patient.idle (runs_whole back calm)
 
   -- what the Book says of the source
   source_read : (book : BookState) (stage : Stage) (now : KeepState) (end : Result SettledFile Cause) → IsRunning stage → book.stage ≡ stage → start ≡ start_at book stage
@@ -94,9 +94,9 @@ module _ {L : Type 0} (state : L → LaneState) (sent : List ℕ → Option Sent
   source_read book Rest now end running at is equals = absurd running
   source_read book (Reading n) now end running at is equals = absurd running
 
-  pub delivers : (limits : Limits) → IsPatient limits → (book : BookState) → start ≡ start_now book → IsRunning book.stage → (back : List L) (now : KeepState) (end : Result SettledFile Cause)
-      → OnOk end (EqualsSource (sent book.keep.drive.label) book now) → Receives state limits start lanes back now end → WholeLanesEndWell state sent limits start lanes back end
-      → Delivers state sent start lanes back now end
-  delivers limits patient book is running back now end equals receives complete s told =
-      subst (λ (t : Sent). MatchResult end (λ file. ReadsAs t.source now × (file.len ≡ length t.source)) (λ cause. NoneFailed state lanes back → IsExcused cause)) (same_source s told)
-      (ends_well limits patient back now end (source_read book book.stage now end running refl is equals) receives complete)
+  pub delivers : (limits : Limits) → IsPatient limits → (book : BookState) → start ≡ start_now book → IsRunning book.stage → (back : List L) (now : KeepState) (end : Result SettledFile Cause) (put_failed : Bool)
+      → OnOk end (EqualsSource (sent book.keep.drive.label) book now) → Receives state limits start lanes back now end put_failed → (put_failed ≡ false → WholeLanesEndWell state sent limits start lanes back end)
+      → Delivers state sent start lanes back now end put_failed
+  delivers limits patient book is running back now end put_failed equals receives complete s told =
+      subst (λ (t : Sent). MatchResult end (λ file. ReadsAs t.source now × (file.len ≡ length t.source)) (λ cause. put_failed ≡ false → NoneFailed state lanes back → IsExcused cause)) (same_source s told)
+      (ends_well limits patient back now end put_failed (source_read book book.stage now end running refl is equals) receives complete)

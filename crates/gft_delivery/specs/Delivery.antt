@@ -1,6 +1,6 @@
 -- Deliveries: transfers whose lanes bring what is sent of their label's source, and how they end.
 use Rattle.std.specs.Prelude.{◌≡◌, ℕ, ◌≤◌, List, length, reverse, slice_get, All, IsSome, MatchResult}
-use Rattle.std.specs.Prelude.{Option, Result, Some}
+use Rattle.std.specs.Prelude.{Bool, Option, Result, Some, false}
 use Rattle.gft_base.specs.Words.{Rose}
 use Rattle.gft_range.specs.declared.Range.{Range}
 use Rattle.gft_drive.specs.Words.{Sent}
@@ -48,11 +48,11 @@ NoneFailed {L = L} state lanes back =
     (k : ℕ) (old new : L) → slice_get lanes k ≡ Some old → slice_get back k ≡ Some new
     → ¬ Rose (state old).faults (state new).faults
 
--- the file is the source, with its length; or the drive failed or was full, memory was refused, or a lane
--- failed
+-- the file is the source, with its length; or the drive failed or was full, memory was refused, or a lane or a
+-- put failed
 abbrev pub Delivers : {L : Type 0} → (L → LaneState) → (List ℕ → Option Sent) → Start → List L → List L
-    → KeepState → Result SettledFile Cause → Type 0
-Delivers state sent start lanes back now end =
+    → KeepState → Result SettledFile Cause → Bool → Type 0
+Delivers state sent start lanes back now end put_failed =
     (s : Sent) → sent start.label ≡ Some s
     → MatchResult end (λ file. ReadsAs s.source now × (file.len ≡ length s.source))
-    (λ cause. NoneFailed state lanes back → IsExcused cause)
+    (λ cause. put_failed ≡ false → NoneFailed state lanes back → IsExcused cause)

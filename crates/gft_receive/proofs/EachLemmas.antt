@@ -22,13 +22,13 @@ use Rattle.gft_receive.specs.Transfer.{MovesEach, bounds_at}
 use Rattle.gft_receive.proofs.ListLemmas.{at_front, elem_at}
 use Rattle.gft_receive.proofs.MoverLemmas.{arrivals_more}
 use Rattle.gft_receive.proofs.TableLemmas.{no_both}
-use Rattle.gft_receive.proofs.TallyLemmas.{announcer, cause-after, eods-after, few_counted, keeper, one_or_all, there, total-after}
+use Rattle.gft_receive.proofs.TallyLemmas.{announcer, cause-after, eods-after, few_counted, KeepsIt, keeper, one_or_all, there, total-after}
 use Rattle.gft_receive.proofs.WholeLemmas.{Took, is_heard, shows_none, took_of}
 
 pub some_at : {A : Type 0} (o : Option A) (P : A → Type 0) (x : A) → o ≡ Some x → IfSome o P → P x
 some_at {A = A} o P x is h = let h' = subst (λ (p : Option A). IfSome p P) is h in h'
 
-is_there : {A : Type 0} (o : Option A) → IsSome o → (x : A) × (o ≡ Some x)
+pub is_there : {A : Type 0} (o : Option A) → IsSome o → (x : A) × (o ≡ Some x)
 is_there None told = absurd (no_both false told refl)
 is_there (Some x) told = (x, refl)
 
@@ -161,9 +161,8 @@ module _ {L : Type 0} (state : L → LaneState) (limits : Limits) (lanes back : 
       h.moved.ends
 
   -- no cause is a lane's, so the Book found it
-  pub book_found : (cause : Cause) → causes (counts ++ nothing ∷ []) ≡ cause ∷ [] → BookFound limits.shift lists counts cause
-  book_found cause is =
-      let kept = keeper counts cause is in
+  its_found : (cause : Cause) → KeepsIt counts cause → BookFound limits.shift lists counts cause
+  its_found cause kept =
       let n = kept.count in
       let h = lane_at kept.lane n kept.at in
       let had = numbers_after h.moved.booked nothing in
@@ -181,63 +180,71 @@ module _ {L : Type 0} (state : L → LaneState) (limits : Limits) (lanes back : 
       other)
       h.moved.ends
 
-  -- ---- the count of all passes
+  module _ (teller : Numbers) where
+    -- or it is the teller's
+    pub book_found : (cause : Cause) → causes (counts ++ teller ∷ []) ≡ cause ∷ [] → BookFound limits.shift lists counts cause ⊎ (teller.cause ≡ Some cause)
+    book_found cause is = ⊎_elim
+        (λ (kept : KeepsIt counts cause). inl (its_found cause kept))
+        (λ (mine : teller.cause ≡ Some cause). inr mine)
+        (keeper counts teller cause is)
 
-  pub in_all : (k : ℕ) (n : Numbers) → slice_get counts k ≡ Some n → IsAt (counts ++ nothing ∷ []) k n
-  in_all k n at = elem_at (counts ++ nothing ∷ []) k n (at_front counts (nothing ∷ []) k n at)
+    -- ---- the count of all passes
 
-  module _ (count : Count) (cause : Option Cause) (agree : NumbersAgree (counts ++ nothing ∷ []) count cause) where
-    pub sum_all : count.eods ≡ sum_by (λ (n : Numbers). n.eods) counts
-    sum_all =
-        let sum : sum_by (λ (n : Numbers). n.eods) (counts ++ nothing ∷ []) ≡ sum_by (λ (n : Numbers). n.eods) counts + 0 = sum_by_push (λ (n : Numbers). n.eods) counts nothing in
-        let all = agree.eods in
-        omega (arith, sum, all)
+    pub in_all : (k : ℕ) (n : Numbers) → slice_get counts k ≡ Some n → IsAt (counts ++ teller ∷ []) k n
+    in_all k n at = elem_at (counts ++ teller ∷ []) k n (at_front counts (teller ∷ []) k n at)
 
-    -- the EODs of a pass are those that it booked
-    few_eods : (k : ℕ) (n : Numbers) → slice_get counts k ≡ Some n → n.eods < 2 ^ 64 - 1
-    few_eods k n at =
-        let most = few_counted count.total count.eods agree.within in
-        let all = agree.eods in
-        let below = sum_by-at (λ (m : Numbers). m.eods) (counts ++ nothing ∷ []) k n (in_all k n at) in
-        omega (arith, most, all, below)
+    module _ (quiet : teller.eods ≡ 0) (count : Count) (cause : Option Cause) (agree : NumbersAgree (counts ++ teller ∷ []) count cause) where
+      pub sum_all : count.eods ≡ sum_by (λ (n : Numbers). n.eods) counts
+      sum_all =
+          let sum : sum_by (λ (n : Numbers). n.eods) (counts ++ teller ∷ []) ≡ sum_by (λ (n : Numbers). n.eods) counts + teller.eods = sum_by_push (λ (n : Numbers). n.eods) counts teller in
+          let all = agree.eods in
+          omega (arith, sum, all, quiet)
 
-    eods_of : (k : ℕ) (n : Numbers) → slice_get counts k ≡ Some n → (list : List Arrival) → n.eods ≡ (numbers_after list nothing).eods → n.eods ≡ eods list
-    eods_of k n at list is =
-        let few = few_eods k n at in
-        let after = eods-after list nothing (omega (arith, is, few)) in
-        omega (arith, is, after)
+      -- the EODs of a pass are those that it booked
+      few_eods : (k : ℕ) (n : Numbers) → slice_get counts k ≡ Some n → n.eods < 2 ^ 64 - 1
+      few_eods k n at =
+          let most = few_counted count.total count.eods agree.within in
+          let all = agree.eods in
+          let below = sum_by-at (λ (m : Numbers). m.eods) (counts ++ teller ∷ []) k n (in_all k n at) in
+          omega (arith, most, all, below)
 
-    pub eods_front : (k : ℕ) (n : Numbers) → slice_get counts k ≡ Some n → (b : BooksFront limits.shift lists k n) → n.eods ≡ eods b.booked
-    eods_front k n at b = eods_of k n at b.booked b.counted
+      eods_of : (k : ℕ) (n : Numbers) → slice_get counts k ≡ Some n → (list : List Arrival) → n.eods ≡ (numbers_after list nothing).eods → n.eods ≡ eods list
+      eods_of k n at list is =
+          let few = few_eods k n at in
+          let after = eods-after list nothing (omega (arith, is, few)) in
+          omega (arith, is, after)
 
-    pub eods_whole : (k : ℕ) (n : Numbers) → slice_get counts k ≡ Some n → (b : BooksWhole limits.shift lists k n) → n.eods ≡ eods (lane_arrivals limits.shift b.list)
-    eods_whole k n at b = eods_of k n at (lane_arrivals limits.shift b.list) (ap (λ (m : Numbers). m.eods) b.numbers)
+      pub eods_front : (k : ℕ) (n : Numbers) → slice_get counts k ≡ Some n → (b : BooksFront limits.shift lists k n) → n.eods ≡ eods b.booked
+      eods_front k n at b = eods_of k n at b.booked b.counted
 
-    -- a total that a lane announces is taken where all of each lane is booked
-    pub total_taken : IsSome (first_of (all_totals limits.shift lists)) → ((k : ℕ) (n : Numbers) → slice_get counts k ≡ Some n → BooksWhole limits.shift lists k n) → (total : ℕ) × (count.total ≡ Some total)
-    total_taken announced each =
-        let shift = limits.shift in
-        let told = announcer shift lists announced in
-        let lt = slice_get_within lists told.lane told.list told.at in
-        let one_each = moves.one_each in
-        let many = gives.many in
-        let c = there counts told.lane (omega (arith, lt, one_each, many)) in
-        let b = each told.lane c.0 c.1 in
-        let same : told.list ≡ b.list = same_Some told.list b.list (sym told.at ∙ b.at) in
-        let has : IsSome (numbers_after (lane_arrivals shift told.list) nothing).total = total-after (lane_arrivals shift told.list) nothing told.told in
-        let numbers : c.0 ≡ numbers_after (lane_arrivals shift told.list) nothing = b.numbers ∙ ap (λ (l : List LaneInput). numbers_after (lane_arrivals shift l) nothing) (sym same) in
-        let total = is_there c.0.total (subst (λ (m : Numbers). IsSome m.total) (sym numbers) has) in
-        (total.0, agree.totals told.lane total.0 c.0 (in_all told.lane c.0 c.1) total.1)
+      pub eods_whole : (k : ℕ) (n : Numbers) → slice_get counts k ≡ Some n → (b : BooksWhole limits.shift lists k n) → n.eods ≡ eods (lane_arrivals limits.shift b.list)
+      eods_whole k n at b = eods_of k n at (lane_arrivals limits.shift b.list) (ap (λ (m : Numbers). m.eods) b.numbers)
 
-  -- where no pass has a cause all EODs came, or all of each lane is booked
-  pub met_or_whole : (count : Count) → NumbersAgree (counts ++ nothing ∷ []) count None → IsMet count ⊎ ((k : ℕ) (n : Numbers) → slice_get counts k ≡ Some n → BooksWhole limits.shift lists k n)
-  met_or_whole count agree = one_or_all counts (IsMet count) (BooksWhole limits.shift lists) each
-    where
-      each : (k : ℕ) (n : Numbers) → slice_get counts k ≡ Some n → IsMet count ⊎ BooksWhole limits.shift lists k n
-      each k n at = ⊎_elim
-          (λ (stopped : n.stopped ≡ true). inl (⊎_elim
-          (λ (kept : IsSome {T = Cause} None). absurd (no_both false kept refl))
-          (λ (met : IsMet count). met)
-          (agree.stopped k n (in_all k n at) stopped)))
-          (λ (b : BooksWhole limits.shift lists k n). inr b)
-          (books_whole k n at (causes-none (counts ++ nothing ∷ []) k n agree.causes (in_all k n at)))
+      -- a total that a lane announces is taken where all of each lane is booked
+      pub total_taken : IsSome (first_of (all_totals limits.shift lists)) → ((k : ℕ) (n : Numbers) → slice_get counts k ≡ Some n → BooksWhole limits.shift lists k n) → (total : ℕ) × (count.total ≡ Some total)
+      total_taken announced each =
+          let shift = limits.shift in
+          let told = announcer shift lists announced in
+          let lt = slice_get_within lists told.lane told.list told.at in
+          let one_each = moves.one_each in
+          let many = gives.many in
+          let c = there counts told.lane (omega (arith, lt, one_each, many)) in
+          let b = each told.lane c.0 c.1 in
+          let same : told.list ≡ b.list = same_Some told.list b.list (sym told.at ∙ b.at) in
+          let has : IsSome (numbers_after (lane_arrivals shift told.list) nothing).total = total-after (lane_arrivals shift told.list) nothing told.told in
+          let numbers : c.0 ≡ numbers_after (lane_arrivals shift told.list) nothing = b.numbers ∙ ap (λ (l : List LaneInput). numbers_after (lane_arrivals shift l) nothing) (sym same) in
+          let total = is_there c.0.total (subst (λ (m : Numbers). IsSome m.total) (sym numbers) has) in
+          (total.0, agree.totals told.lane total.0 c.0 (in_all told.lane c.0 c.1) total.1)
+
+    -- where no pass has a cause all EODs came, or all of each lane is booked
+    pub met_or_whole : (count : Count) → NumbersAgree (counts ++ teller ∷ []) count None → IsMet count ⊎ ((k : ℕ) (n : Numbers) → slice_get counts k ≡ Some n → BooksWhole limits.shift lists k n)
+    met_or_whole count agree = one_or_all counts (IsMet count) (BooksWhole limits.shift lists) each
+      where
+        each : (k : ℕ) (n : Numbers) → slice_get counts k ≡ Some n → IsMet count ⊎ BooksWhole limits.shift lists k n
+        each k n at = ⊎_elim
+            (λ (stopped : n.stopped ≡ true). inl (⊎_elim
+            (λ (kept : IsSome {T = Cause} None). absurd (no_both false kept refl))
+            (λ (met : IsMet count). met)
+            (agree.stopped k n (in_all k n at) stopped)))
+            (λ (b : BooksWhole limits.shift lists k n). inr b)
+            (books_whole k n at (causes-none (counts ++ teller ∷ []) k n agree.causes (in_all k n at)))

@@ -12,6 +12,10 @@ mod TallyLemmas
 mod WholeLemmas
 mod EachLemmas
 mod CompleteLemmas
+mod GapLemmas
+mod TellingLemmas
+mod LastLemmas
+mod ToldLemmas
 mod BehindLemmas
 mod KnownLemmas
 mod PartLemmas

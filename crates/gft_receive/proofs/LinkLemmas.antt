@@ -19,6 +19,7 @@ use Rattle.gft_book.specs.Words.{SettledFile, Start, cause_of_keep}
 use Rattle.gft_receive.specs.declared.limits.Limits.{Limits}
 use Rattle.gft_receive.specs.Booking.{IsBooksCause, numbers_after}
 use Rattle.gft_receive.specs.Causes.{bad_block, cause_at, first_cause, lost, or_later, refused_in, too_long, too_many}
+use Rattle.gft_receive.specs.Telling.{IsTellers}
 use Rattle.gft_receive.specs.Moved.{IsLanesCause, IsMoved, MoverEnds}
 use Rattle.gft_receive.specs.Transfer.{EndsBadly, HasRun, MovesEach, Receives, bounds_at}
 use Rattle.gft_receive.proofs.TallyLemmas.{KeepsIt, cause-after, keeper}
@@ -140,11 +141,18 @@ kept_fault state limits lanes back counts each kept =
     let rose = mover_rose (numbers_after moved.booked nothing) kept.count (cause-after moved.booked nothing) kept.kept moved.ends in
     record { place = kept.lane; lane = new.0; at = new.1; fault = omega (arith, rose) }
 
+-- nor is it the teller's
+teller_quiet : (put_failed : Bool) (teller : Numbers) → IsTellers put_failed teller → teller.cause ≡ Some cause_is.LinkFailed → ⊥
+teller_quiet put_failed teller is some = rw some at is.cause
+
 -- an end by the link has a lane with a fault
-pub link_failed : {L : Type 0} (state : L → LaneState) (limits : Limits) (start : Start) (lanes back : List L) (now : KeepState) → Receives state limits start lanes back now (Err cause_is.LinkFailed) → HasFault state back
-link_failed state limits start lanes back now (inl run) = elim run.ends [
-  | inl kept ↦ kept_fault state limits lanes back run.counts run.each (keeper run.counts cause_is.LinkFailed kept.0)
+pub link_failed : {L : Type 0} (state : L → LaneState) (limits : Limits) (start : Start) (lanes back : List L) (now : KeepState) (put_failed : Bool) → Receives state limits start lanes back now (Err cause_is.LinkFailed) put_failed → HasFault state back
+link_failed state limits start lanes back now put_failed (inl run) = elim run.ends [
+  | inl kept ↦ elim (keeper run.counts run.teller cause_is.LinkFailed kept.0) [
+    | inl one ↦ kept_fault state limits lanes back run.counts run.each one
+    | inr teller ↦ absurd (teller_quiet put_failed run.teller run.tellers teller)
+  ]
   | inr (none, inl gap) ↦ absurd (cc gap.is_it)
   | inr (none, inr drive) ↦ absurd (cc drive.0)
 ]
-link_failed state limits start lanes back now (inr memory) = absurd (cc memory.0)
+link_failed state limits start lanes back now put_failed (inr memory) = absurd (cc memory.0)

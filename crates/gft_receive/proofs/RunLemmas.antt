@@ -7,7 +7,7 @@ use Rattle.atomic_table.specs.Seated.{TableId}
 use Rattle.gft_base.specs.declared.TheConstants.{LIMIT}
 use Rattle.gft_base.specs.Words.{Rose}
 use Rattle.gft_range.specs.declared.Range.{Range}
-use Rattle.gft_range.specs.Words.{HasNoGap, IsFirstGap}
+use Rattle.gft_range.specs.Words.{HasNoGap, IsFirstGap, IsNormal}
 use Rattle.gft_drive.specs.Words.{Sent}
 use Rattle.gft_eod.specs.Words.{Count, IsMet}
 use Rattle.gft_keep.specs.Words.{KeepState}
@@ -15,19 +15,20 @@ use Rattle.gft_outside.specs.Words.{LaneState, no_channels}
 use Rattle.gft_pass.specs.declared.Cause.{Cause}
 use Rattle.gft_pass.specs.declared.Cause.TheVariants.{DriveFailed, Hole}
 use Rattle.gft_pass.specs.declared.Numbers.{Numbers}
-use Rattle.gft_pass.specs.Words.{Lane, causes, nothing, one}
+use Rattle.gft_pass.specs.Words.{Lane, causes, one}
 use Rattle.gft_pass.proofs.Lemmas.{AllPasses-lane, AllPasses-length}
 use Rattle.gft_book.specs.declared.usage.How.{How}
 use Rattle.gft_book.specs.declared.transfer.Transfer.{Transfer}
 use Rattle.gft_book.specs.declared.transfer.Stage.{Stage}
 use Rattle.gft_book.specs.declared.transfer.Stage.TheVariants.{Rest, Reading, Storing}
-use Rattle.gft_book.specs.Words.{BookState, ComesToRest, EndsFailed, EqualsSource, FindsFailed, HasAllPasses, InTransfer, IsBook, IsKeptEnd, IsLive, IsTransfer, NeverFalls, IsPass, IsRunning, IsStarted, KeepsCause, KeepsFirst, Moving, NumbersAgree, SamePass, SameTransfer, SettledFile, SettlesBadly, SettlesWell, ShowsHole, Start, as_stopped, cause_of, left_out, rest_of, start_at, start_now, transfer_of, with_cause}
+use Rattle.gft_book.specs.Words.{BookState, ComesToRest, EndsFailed, EqualsSource, FindsFailed, HasAllPasses, InTransfer, IsBook, IsKeptEnd, IsLive, IsTransfer, NeverFalls, IsPass, IsPassOf, IsRunning, IsStarted, KeepsCause, KeepsFirst, Moving, NumbersAgree, SamePass, SameTransfer, SettledFile, SettlesBadly, SettlesWell, ShowsHole, Start, as_stopped, cause_of, left_out, rest_of, start_at, start_now, transfer_of, with_cause}
 use Rattle.gft_book.proofs.Lemmas.{HasAllPasses-lane, HasAllPasses-set, IsLaneOf-lane, in_map}
 use Rattle.gft_receive.specs.declared.limits.Limits.{Limits}
 use Rattle.gft_receive.specs.declared.transfer.LaneWork.{LaneWork}
 use Rattle.gft_receive.specs.Honest.{IsHonestLeft, TellsTotal}
 use Rattle.gft_receive.specs.Moved.{IsMoved}
 use Rattle.gft_receive.specs.Transfer.{AreFresh, AreMet, AreReady, EndsBadly, EndsWell, IsLaneReady, IsWorked, MovesEach, ShowsGap, bounds_at}
+use Rattle.gft_receive.proofs.GapLemmas.{ranges_whole}
 use Rattle.gft_receive.proofs.HonestLemmas.{some_map}
 use Rattle.gft_receive.proofs.ListLemmas.{at_front, at_last, at_map, elem_at, mapped_at, same_some, set_last}
 
@@ -115,16 +116,21 @@ module _ {L : Type 0} where
       let tail = same_passes xs ys rest (omega arith) (λ i d lt. moved (suc i) d (omega arith)) in
       λ k. (head.table k, head.lane k) ∷ tail k
 
+  same_last : (works : List (LaneWork L)) (teller now : Lane) → SamePass teller now
+      → map {B = TableId × ℕ} (λ (p : Lane). (p.table, p.lane)) (map pass_of works ++ now ∷ []) ≡ map {B = TableId × ℕ} (λ (p : Lane). (p.table, p.lane)) (map pass_of works ++ teller ∷ [])
+  same_last [] teller now same = λ k. (same.table k, same.lane k) ∷ []
+  same_last (x ∷ xs) teller now same = let tail = same_last xs teller now same in λ k. (x.pass.table, x.pass.lane) ∷ tail k
+
   -- they are all passes still
-  pub all_back : (stage : Stage) (old new : List (LaneWork L)) (teller : Lane) → length new ≡ length old → ((i : ℕ) (d : LaneWork L) → i < length old → SamePass (slice_index_or old i d).pass (slice_index_or new i d).pass) → HasAllPasses stage (map pass_of old ++ teller ∷ []) → HasAllPasses stage (map pass_of new ++ teller ∷ [])
-  all_back (Storing t) old new teller many moved all = same_passes old new (teller ∷ []) many moved ∙ all
-  all_back Rest old new teller many moved all = absurd all
-  all_back (Reading n) old new teller many moved all = absurd all
+  pub all_back : (stage : Stage) (old new : List (LaneWork L)) (teller now : Lane) → length new ≡ length old → ((i : ℕ) (d : LaneWork L) → i < length old → SamePass (slice_index_or old i d).pass (slice_index_or new i d).pass) → SamePass teller now → HasAllPasses stage (map pass_of old ++ teller ∷ []) → HasAllPasses stage (map pass_of new ++ now ∷ [])
+  all_back (Storing t) old new teller now many moved same all = same_last new teller now same ∙ same_passes old new (teller ∷ []) many moved ∙ all
+  all_back Rest old new teller now many moved same all = absurd all
+  all_back (Reading n) old new teller now many moved same all = absurd all
 
   -- the numbers of all passes
-  pub counts_back : (works : List (LaneWork L)) (teller : Lane) → teller.count ≡ nothing → map (λ (p : Lane). p.count) (map pass_of works ++ teller ∷ []) ≡ map count_of works ++ nothing ∷ []
-  counts_back [] teller fresh = ap (λ (n : Numbers). n ∷ []) fresh
-  counts_back (work ∷ works) teller fresh = ap (λ (l : List Numbers). work.pass.count ∷ l) (counts_back works teller fresh)
+  pub counts_back : (works : List (LaneWork L)) (teller : Lane) → map (λ (p : Lane). p.count) (map pass_of works ++ teller ∷ []) ≡ map count_of works ++ teller.count ∷ []
+  counts_back [] teller = refl
+  counts_back (work ∷ works) teller = ap (λ (l : List Numbers). work.pass.count ∷ l) (counts_back works teller)
 
 -- ---- how the transfer ends
 
@@ -136,7 +142,7 @@ are_met counts count cause agree met = record {
   met = sym agree.eods;
 }
 
-module _ (start : Start) (keep now : KeepState) (counts : List Numbers) (t : Transfer) (here : IsStarted start t) (agree : NumbersAgree t.roster.counts t.count t.cause) (listed : t.roster.counts ≡ counts) (found : causes counts ≡ one t.cause) where
+module _ (start : Start) (keep now : KeepState) (counts : List Numbers) (t : Transfer) (normal : IsNormal keep.ranges) (here : IsStarted start t) (agree : NumbersAgree t.roster.counts t.count t.cause) (listed : t.roster.counts ≡ counts) (found : causes counts ≡ one t.cause) where
   ends_well : (file : SettledFile) → SettlesWell keep now file t → EndsWell start counts now file
   ends_well file w = record {
     of_it = w.numbers ∙ (λ k. record { table = here.table k; counts = listed k });
@@ -146,6 +152,9 @@ module _ (start : Start) (keep now : KeepState) (counts : List Numbers) (t : Tra
     complete = λ stor.
         let f = w.stor (subst (λ (h : How). IsSome (left_out h)) (sym here.how) stor) in
         (f.complete, subst (λ (r : List Range). IsKeptEnd r file.len) (sym f.ranges) w.len);
+    ranges = λ stor.
+        let is_stor = subst (λ (h : How). IsSome (left_out h)) (sym here.how) stor in
+        (w.stor is_stor).ranges ∙ ranges_whole keep.ranges file.len normal (w.whole.no_gap is_stor) w.len;
   }
 
   gap : (cause : Cause) → now.ranges ≡ keep.ranges → ShowsHole keep.ranges t cause → ShowsGap start counts now cause
@@ -175,12 +184,12 @@ module _ (start : Start) (keep now : KeepState) (counts : List Numbers) (t : Tra
       (λ late. inr (found ∙ ap one late.0, inr (late.2, rose late.3)))
       b
 
-pub ends : (start : Start) (keep now : KeepState) (counts : List Numbers) (stage : Stage) (end : Result SettledFile Cause) → now.ranges ≡ keep.ranges → InTransfer (IsStarted start) stage → IfSome (transfer_of stage) (λ t. NumbersAgree t.roster.counts t.count t.cause) → InTransfer (λ t. t.roster.counts ≡ counts) stage → causes counts ≡ one (cause_of stage) → (cause_of stage ≡ Some DriveFailed → Rose start.faults now.drive.faults) → (Rose keep.drive.faults now.drive.faults → Rose start.faults now.drive.faults)
+pub ends : (start : Start) (keep now : KeepState) (counts : List Numbers) (stage : Stage) (end : Result SettledFile Cause) → IsNormal keep.ranges → now.ranges ≡ keep.ranges → InTransfer (IsStarted start) stage → IfSome (transfer_of stage) (λ t. NumbersAgree t.roster.counts t.count t.cause) → InTransfer (λ t. t.roster.counts ≡ counts) stage → causes counts ≡ one (cause_of stage) → (cause_of stage ≡ Some DriveFailed → Rose start.faults now.drive.faults) → (Rose keep.drive.faults now.drive.faults → Rose start.faults now.drive.faults)
     → IfOk end (λ file. InTransfer (SettlesWell keep now file) stage) → IfErr end (λ cause. InTransfer (SettlesBadly keep now cause) stage) → MatchResult end (EndsWell start counts now) (EndsBadly start counts now)
-ends start keep now counts (Storing t) (Ok file) same here agree listed found failed rose well badly = ends_well start keep now counts t here agree listed found file well
-ends start keep now counts (Storing t) (Err cause) same here agree listed found failed rose well badly = ends_badly start keep now counts t here agree listed found cause same failed rose badly
-ends start keep now counts Rest end same here agree listed found failed rose well badly = absurd here
-ends start keep now counts (Reading n) end same here agree listed found failed rose well badly = absurd here
+ends start keep now counts (Storing t) (Ok file) normal same here agree listed found failed rose well badly = ends_well start keep now counts t normal here agree listed found file well
+ends start keep now counts (Storing t) (Err cause) normal same here agree listed found failed rose well badly = ends_badly start keep now counts t normal here agree listed found cause same failed rose badly
+ends start keep now counts Rest end normal same here agree listed found failed rose well badly = absurd here
+ends start keep now counts (Reading n) end normal same here agree listed found failed rose well badly = absurd here
 
 -- a transfer that failed for a cause ends with it
 pub ends_for : (keep now : KeepState) (kept : Cause) (stage : Stage) (end : Result SettledFile Cause) → InTransfer (λ t. t.cause ≡ Some kept) stage → IfOk end (λ file. InTransfer (SettlesWell keep now file) stage) → IfErr end (λ cause. InTransfer (SettlesBadly keep now cause) stage) → end ≡ Err kept
@@ -215,7 +224,7 @@ listed_run mid now passes counts rest are = in_map (λ t. t.roster.counts ≡ ma
 pub ends_run : (sent : List ℕ → Option Sent) (start : Start) (mid now : BookState) (passes : List Lane) (counts : List Numbers) (end : Result SettledFile Cause) → IsBook sent mid → IsLive start mid → ComesToRest mid now passes → NeverFalls mid.keep.drive.faults now.keep.drive.faults → map (λ (p : Lane). p.count) passes ≡ counts
     → IfOk end (λ file. InTransfer (SettlesWell mid.keep now.keep file) mid.stage) → IfErr end (λ cause. InTransfer (SettlesBadly mid.keep now.keep cause) mid.stage) → MatchResult end (EndsWell start counts now.keep) (EndsBadly start counts now.keep)
 ends_run sent start mid now passes counts end book live rest counted are well badly =
-    ends start mid.keep now.keep counts mid.stage end rest.ranges live.transfer
+    ends start mid.keep now.keep counts mid.stage end book.keep.normal rest.ranges live.transfer
     (some_map (transfer_of mid.stage) (IsTransfer sent mid.keep) (λ t. NumbersAgree t.roster.counts t.count t.cause) (λ t h. h.numbers) book.transfer)
     (listed_run mid now passes counts rest are)
     (subst (λ (l : List Numbers). causes l ≡ one (cause_of mid.stage)) are rest.causes)
@@ -255,7 +264,7 @@ honest_run sent before mid now end running live h =
 
 -- ---- a transfer that fails before it began
 
-no_cause : (o : Option Cause) → o ≡ None → IsSome o → ⊥
+pub no_cause : (o : Option Cause) → o ≡ None → IsSome o → ⊥
 no_cause None none there = true≢false (sym there)
 no_cause (Some cause) none there = none-some cause (sym none)
 
@@ -286,3 +295,22 @@ pub fail_passes : (old new : Stage) (passes : List Lane) (before after : Lane) (
 fail_passes old new passes before after cause goes failed all =
     subst (λ (l : List Lane). HasAllPasses new l) (set_last passes before after)
     (HasAllPasses-set old new (passes ++ before ∷ []) (length passes) before after goes (fail_same old new before after cause failed) (elem_at (passes ++ before ∷ []) (length passes) before (at_last passes before)) all)
+
+-- ---- the teller's pass
+
+-- a pass of the transfer that a lock names
+pub started_pass : (book : BookState) (stage : Stage) (pass : Lane) → IsPass stage pass → IsPassOf (start_at book stage) pass
+started_pass book (Storing t) pass h = h
+started_pass book Rest pass h = absurd h
+started_pass book (Reading n) pass h = absurd h
+
+pub live_pass : (start : Start) (stage : Stage) (pass : Lane) → InTransfer (IsStarted start) stage → IsPassOf start pass → IsPass stage pass
+live_pass start (Storing t) pass here mine = (mine.0 ∙ sym here.table, subst (λ (n : ℕ). pass.lane < n) (sym here.passes) mine.1)
+live_pass start Rest pass here mine = absurd here
+live_pass start (Reading n) pass here mine = absurd here
+
+pub same_pass : (a b c : Lane) → SamePass a b → SamePass b c → SamePass a c
+same_pass a b c p q = record { table = q.table ∙ p.table; lane = q.lane ∙ p.lane }
+
+pub same_pass_of : (start : Start) (a b : Lane) → SamePass a b → IsPassOf start a → IsPassOf start b
+same_pass_of start a b p mine = (p.table ∙ mine.0, subst (λ (n : ℕ). n < start.passes) (sym p.lane) mine.1)

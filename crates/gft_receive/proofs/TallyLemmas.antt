@@ -10,7 +10,7 @@ use Rattle.gft_drive.specs.Words.{sum_below}
 use Rattle.gft_outside.specs.Words.{LaneInput, all_totals, first_of, lane_arrivals}
 use Rattle.gft_pass.specs.declared.Cause.{Cause}
 use Rattle.gft_pass.specs.declared.Numbers.{Numbers}
-use Rattle.gft_pass.specs.Words.{causes, nothing, one}
+use Rattle.gft_pass.specs.Words.{causes, one}
 use Rattle.gft_book.specs.Words.{more_bytes, one_eod, with_total}
 use Rattle.gft_receive.specs.Booking.{numbers_after}
 use Rattle.gft_receive.proofs.TableLemmas.{no_both}
@@ -96,17 +96,29 @@ pub record KeepsIt (counts : List Numbers) (cause : Cause) : Type 0 where
   pub at : slice_get counts lane ≡ Some count
   pub kept : count.cause ≡ Some cause
 
-pub keeper : (counts : List Numbers) (cause : Cause) → causes (counts ++ nothing ∷ []) ≡ cause ∷ [] → KeepsIt counts cause
-keeper [] cause is = absurd (let e = ap (λ (l : List Cause). length l) is in omega (arith, e))
-keeper (n ∷ counts) cause is = cases n.cause refl is (keeper counts cause)
+-- or it is the teller's
+pub keeper : (counts : List Numbers) (teller : Numbers) (cause : Cause) → causes (counts ++ teller ∷ []) ≡ cause ∷ [] → KeepsIt counts cause ⊎ (teller.cause ≡ Some cause)
+keeper [] teller cause is = inr (cases teller.cause is)
+  where
+    cases : (o : Option Cause) → one o ++ [] ≡ cause ∷ [] → o ≡ Some cause
+    cases None is' = absurd (let e = ap (λ (l : List Cause). length l) is' in omega (arith, e))
+    cases (Some c) is' = ap (λ (l : List Cause). Some (head l)) is'
+      where
+        head : List Cause → Cause
+        head [] = cause
+        head (d ∷ l) = d
+keeper (n ∷ counts) teller cause is = cases n.cause refl is (keeper counts teller cause)
   where
     head : List Cause → Cause
     head [] = cause
     head (c ∷ l) = c
 
-    cases : (o : Option Cause) → n.cause ≡ o → one o ++ causes (counts ++ nothing ∷ []) ≡ cause ∷ [] → (causes (counts ++ nothing ∷ []) ≡ cause ∷ [] → KeepsIt counts cause) → KeepsIt (n ∷ counts) cause
-    cases (Some c) here is' later = record { lane = 0; count = n; at = refl; kept = here ∙ ap (λ (l : List Cause). Some (head l)) is' }
-    cases None here is' later = let k = later is' in record { lane = suc k.lane; count = k.count; at = k.at; kept = k.kept }
+    cases : (o : Option Cause) → n.cause ≡ o → one o ++ causes (counts ++ teller ∷ []) ≡ cause ∷ [] → (causes (counts ++ teller ∷ []) ≡ cause ∷ [] → KeepsIt counts cause ⊎ (teller.cause ≡ Some cause)) → KeepsIt (n ∷ counts) cause ⊎ (teller.cause ≡ Some cause)
+    cases (Some c) here is' later = inl (record { lane = 0; count = n; at = refl; kept = here ∙ ap (λ (l : List Cause). Some (head l)) is' })
+    cases None here is' later = ⊎_elim
+        (λ (k : KeepsIt counts cause). inl (record { lane = suc k.lane; count = k.count; at = k.at; kept = k.kept }))
+        (λ (mine : teller.cause ≡ Some cause). inr mine)
+        (later is')
 
 -- the lane that announces a total
 pub record Announces (shift : ℕ) (lists : List (List LaneInput)) : Type 0 where

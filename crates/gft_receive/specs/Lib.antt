@@ -6,6 +6,8 @@ pub mod Known
 pub mod Moved
 pub mod Rows
 pub mod Table
+pub mod Teller
+pub mod Telling
 pub mod Transfer
 pub mod Turns
 pub mod Words

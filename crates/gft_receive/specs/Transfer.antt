@@ -1,6 +1,7 @@
 -- What a transfer asks of its lanes, and what it hands back.
 use Rattle.std.specs.Prelude.{◌≡◌, ◌⊎◌, ◌↔◌, ℕ, ◌≤◌, List, [], ◌∷◌, ◌++◌, length, sum_by, slice_get}
-use Rattle.std.specs.Prelude.{All, IsSome, IsTrue, MatchOption, MatchResult, Option, Result, Some, Err}
+use Rattle.std.specs.Prelude.{All, Bool, IsSome, IsTrue, MatchOption, MatchResult, Option, Result, Some, Err}
+use Rattle.std.specs.Prelude.{if◌then◌else◌, nat_eq}
 use Rattle.gft_base.specs.declared.TheConstants.{LIMIT}
 use Rattle.gft_base.specs.Words.{Rose}
 use Rattle.gft_range.specs.declared.Range.{Range}
@@ -17,6 +18,7 @@ use Rattle.gft_receive.specs.declared.limits.Limits.{Limits}
 use Rattle.gft_receive.specs.declared.transfer.LaneWork.{LaneWork}
 use Rattle.gft_receive.specs.Honest.{IsHonestLeft, TellsTotal}
 use Rattle.gft_receive.specs.Moved.{Bounds, IsMoved}
+use Rattle.gft_receive.specs.Telling.{IsTellers}
 
 abbrev pub bounds_at : Limits → ℕ → Bounds
 bounds_at limits lane = record { lane = lane; shift = limits.shift; idle = limits.idle }
@@ -64,6 +66,10 @@ pub record AreMet (all : List Numbers) : Type 0 where
   pub agreed : (k other : ℕ) (n : Numbers) → IsAt all k n → n.total ≡ Some other → other ≡ total
   pub met : sum_by (λ n. n.eods) all ≡ total
 
+-- the ranges of a file without a gap
+abbrev pub whole_ranges : ℕ → List Range
+whole_ranges len = if nat_eq len 0 then [] else record { start = 0; end = len } ∷ []
+
 -- the transfer ended well: a file of its passes' numbers, which for a STOR is complete up to its length
 pub record EndsWell (start : Start) (all : List Numbers) (now : KeepState) (file : SettledFile) : Type 0 where
   pub of_it : file.numbers ≡ record { table = start.table; counts = all }
@@ -71,6 +77,7 @@ pub record EndsWell (start : Start) (all : List Numbers) (now : KeepState) (file
   pub no_cause : causes all ≡ []
   pub is_whole : IsTrue file.is_whole ↔ IsSome (left_out start.how)
   pub complete : IsSome (left_out start.how) → (now.complete ≡ Some file.len) × IsKeptEnd now.ranges file.len
+  pub ranges : IsSome (left_out start.how) → now.ranges ≡ whole_ranges file.len
 
 -- the hole that the cause shows: no total was told, or there are more or fewer EODs; or a STOR's file has a
 -- gap
@@ -94,13 +101,15 @@ EndsBadly start all now cause =
 
 -- a transfer whose movers ran; or memory was refused for them, and no lane was asked
 pub record HasRun {L : Type 0} (state : L → LaneState) (limits : Limits) (start : Start) (lanes back : List L)
-    (now : KeepState) (end : Result SettledFile Cause) : Type 0 where
+    (now : KeepState) (end : Result SettledFile Cause) (put_failed : Bool) : Type 0 where
   pub counts : List Numbers
+  pub teller : Numbers
   pub each : MovesEach state limits lanes back counts
-  pub ends : MatchResult end (EndsWell start (counts ++ nothing ∷ []) now)
-      (EndsBadly start (counts ++ nothing ∷ []) now)
+  pub tellers : IsTellers put_failed teller
+  pub ends : MatchResult end (EndsWell start (counts ++ teller ∷ []) now)
+      (EndsBadly start (counts ++ teller ∷ []) now)
 
 abbrev pub Receives : {L : Type 0} → (L → LaneState) → Limits → Start → List L → List L → KeepState
-    → Result SettledFile Cause → Type 0
-Receives state limits start lanes back now end =
-    HasRun state limits start lanes back now end ⊎ ((end ≡ Err Memory) × (back ≡ lanes))
+    → Result SettledFile Cause → Bool → Type 0
+Receives state limits start lanes back now end put_failed =
+    HasRun state limits start lanes back now end put_failed ⊎ ((end ≡ Err Memory) × (back ≡ lanes))

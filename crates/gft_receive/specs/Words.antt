@@ -8,5 +8,7 @@ pub use Rattle.gft_receive.specs.Honest.{MayBring, TellsTotal}
 pub use Rattle.gft_receive.specs.Moved.{Bounds, MoverEnds, GaveAll, HasFailedFor, IsDoneWith, IsLanesCause}
 pub use Rattle.gft_receive.specs.Moved.{IsMoved}
 pub use Rattle.gft_receive.specs.Rows.{BringsBytes, channel_inputs}
+pub use Rattle.gft_receive.specs.Telling.{HasTold, IsHeld, IsTellers, IsTellersCause, LiesBelow, Puts, PutsAll}
+pub use Rattle.gft_receive.specs.Telling.{PutsPart, Tells, TellsWhole, line_of, lines_of, marker_of}
 pub use Rattle.gft_receive.specs.Transfer.{AreFresh, AreMet, AreReady, EndsBadly, EndsWell, HasRun, MovesEach}
-pub use Rattle.gft_receive.specs.Transfer.{Receives, ShowsGap, bounds_at}
+pub use Rattle.gft_receive.specs.Transfer.{Receives, ShowsGap, bounds_at, whole_ranges}

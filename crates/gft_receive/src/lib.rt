@@ -11,6 +11,10 @@ mod limits;
 mod mover;
 mod outcome;
 mod patience;
+mod teller;
+mod telling;
+#[cfg(test)]
+mod telling_tests;
 #[cfg(test)]
 mod tests;
 mod transfer;

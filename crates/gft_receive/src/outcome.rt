@@ -11,10 +11,12 @@ pub struct Outcome {
     pub told: u64,
 }
 
-/// What a transfer hands back: its outcome, the Book, at rest, and the lanes in their order.
+/// What a transfer hands back: its outcome, whether a put of it failed, the Book, at rest, and the lanes in
+/// their order. Behind a put that failed nothing more may be put.
 #[derive(Drop)]
 pub struct Received<L: Drop, D: Drive + Drop, O: Origin> {
     pub outcome: Outcome,
+    pub put_failed: bool,
     pub book: Book<D, O>,
     pub lanes: Vec<L>,
 }

@@ -160,6 +160,7 @@ fn transfer<L: Lane + Drop, R: Threads + Wait + Sync>(
     };
     let Received {
         outcome,
+        put_failed: _,
         book,
         lanes: _,
     } = receive(
