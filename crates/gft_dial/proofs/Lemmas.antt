@@ -7,7 +7,8 @@ use Rattle.gft_base.specs.Words.{Rose}
 use Rattle.gft_text.specs.declared.host_port.HostPort.{HostPort}
 use Rattle.gft_outside.specs.Words.{Deals, Dialled, Gains, LinkState, OutLaneState, TakesBackOut, more_faults}
 use Rattle.gft_outside.specs.declared.link.Dial.{Dial}
-use Rattle.gft_dial.specs.Dials.{DialsTo, ReturnsOut, in_pairs, with_faults}
+use Rattle.gft_send.specs.declared.transfer.Stripe.{Stripe}
+use Rattle.gft_dial.specs.Dials.{DialsTo, ReturnsOut, in_pairs, outs_of, with_faults}
 
 -- ---- given back
 
@@ -124,3 +125,14 @@ dials_join a b c ps qs xs ys first next = record {
   handed_out = omega (arith, length-append xs ys, first.handed_out, next.handed_out);
   faults = next.faults ∙ first.faults;
 }
+
+-- ---- stripes that were sent
+
+-- where each stripe keeps as many data connections, so do all together: what `send` leaves may be hung up
+pub outs_kept : {D X : Type 0} (old new : List (Stripe D X)) → length new ≡ length old → ((i : ℕ) (d : Stripe D X) → i < length old → length (slice_index_or new i d).channels.items ≡ length (slice_index_or old i d).channels.items)
+    → length (outs_of new) ≡ length (outs_of old)
+outs_kept [] [] many each = refl
+outs_kept [] (s ∷ ss) many each = absurd (omega arith)
+outs_kept (s ∷ ss) [] many each = absurd (omega arith)
+outs_kept (a ∷ old) (b ∷ new) many each =
+    omega (arith, each 0 a (omega arith), length-append a.channels.items (outs_of old), length-append b.channels.items (outs_of new), outs_kept old new (omega arith) (λ i d lt. each (suc i) d (omega arith)))

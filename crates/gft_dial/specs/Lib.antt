@@ -1,3 +1,4 @@
 pub mod Dials
+pub mod Regions
 pub mod Stripes
 pub mod Words

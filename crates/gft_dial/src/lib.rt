@@ -8,9 +8,11 @@
 mod dialling;
 mod error;
 mod hanging_up;
+mod region;
 #[cfg(test)]
 mod tests;
 
 pub use dialling::dial_stripes;
 pub use error::DialError;
 pub use hanging_up::hang_up;
+pub use region::{FilePart, region_of};

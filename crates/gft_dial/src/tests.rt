@@ -2,6 +2,7 @@ ghost use Rattle.std.specs.Prelude.{◌≡◌};
 
 use super::*;
 use gft_outside::{Dial, Link, MemoryLink, MemoryOutLane, OutLane};
+use gft_range::Range;
 use gft_send::Stripe;
 use gft_text::HostPort;
 use std::alloc::Global;
@@ -92,6 +93,26 @@ fn out_lanes_come_back_with_their_faults(rt: HostRuntime) -> Result<(), Fail> {
     let _unused = link.dial(&address(2))?;
     hang_up(&mut link, stripes);
     assert_eq!(rt; (link.handed_out(), link.faults()), (0, 1));
+    Ok(())
+}
+
+#[test]
+fn a_part_goes_as_far_as_the_file(rt: HostRuntime) -> Result<(), Fail> {
+    let rows = [
+        (2, 3, 2, 5),
+        (0, 10, 0, 10),
+        (8, 5, 8, 10),
+        (10, 1, 10, 10),
+        (11, 4, 10, 10),
+        (3, u64::MAX, 3, 10),
+        (u64::MAX, u64::MAX, 10, 10),
+        (4, 0, 4, 4),
+    ];
+    assert_eq!(rt; region_of(10, None), Range { start: 0, end: 10 });
+    for (offset, size, start, end) in rows {
+        let region = region_of(10, Some(FilePart { offset, size }));
+        assert_eq!(rt; region, Range { start, end }, "{offset} {size}");
+    }
     Ok(())
 }
 

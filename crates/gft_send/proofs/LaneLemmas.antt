@@ -3,6 +3,7 @@ use Rattle.std.proofs.Common.{◌≡◌, ◌≢◌, ℕ, ◌+◌, ◌<◌, ◌�
 use Rattle.std.specs.Prelude.{All, Option, None, Some, Result, Ok, Err, slice_index, slice_index_or}
 use Rattle.std.specs.Io.KnownBytes.{Appends}
 use Rattle.std.proofs.KnownBytes.{Appends-nil}
+use Rattle.std.proofs.lemmas.List.{length-set}
 use Rattle.std.proofs.lemmas.Bool.{cases_eq, cases_lt}
 use Rattle.std.proofs.lemmas.List.{get_or_default, length-replicate, take_all}
 use Rattle.std.proofs.Math.ListN.{replicate}
@@ -161,6 +162,7 @@ module _ {X : Type 0} (state : X → OutLaneState) (plan : SendPlan) (done : Lis
     sent_cut cause lawful_seen lawful_looked below sends =
         let c = carried {T = ℕ} (Err cause) sends in
         record {
+          many = length-set now i o ∙ size;
           carries = record {
             file = c.file;
             may = c.may;
@@ -192,6 +194,7 @@ module _ {X : Type 0} (state : X → OutLaneState) (plan : SendPlan) (done : Lis
   pub sent_all : (drive looked : DriveState) (n : ℕ) (old now : List X) → HasSent state plan done stripe drive looked n old now → length old ≡ n → length now ≡ length old → 1 ≤ n → (total : ℕ) → total ≡ stripe_bytes plan done stripe
       → SendsLane state plan done stripe (Ok total) drive looked old now
   sent_all drive looked n old now sent many size some total is = record {
+    many = size;
     carries = record { file = sent.file; may = sent.may; whole = sent.whole; streams = λ k d lt. sent.streams k d (omega arith) };
     is_open = λ k d lt. sent.is_open k d (omega arith);
     count = is;
@@ -211,6 +214,7 @@ module _ {X : Type 0} (state : X → OutLaneState) (plan : SendPlan) (done : Lis
   sent_refused drive outs there some =
       let f = some_file drive.contents plan.region there in
       record {
+        many = refl;
         carries = record { file = f.file; may = f.may; whole = f.whole; streams = λ k d lt. (0, Appends-nil (state (slice_index_or outs k d)).written) };
         is_open = tt;
         count = tt;

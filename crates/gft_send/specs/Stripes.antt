@@ -60,6 +60,8 @@ IsLeftOf plan done stripe rest =
 
 pub record SendsLane {X : Type 0} (state : X → OutLaneState) (plan : SendPlan) (done : List Range)
     (stripe : ℕ) (result : Result ℕ Cause) (drive looked : DriveState) (old new : List X) : Type 0 where
+  -- the stripe keeps its data connections
+  pub many : length new ≡ length old
   pub carries : CarriesStripe state drive.contents plan done stripe result old new
   pub is_open : OnOk result (All (λ out. (state out).is_open ≡ true) new)
   pub count : IfOk result (λ n. n ≡ stripe_bytes plan done stripe)
