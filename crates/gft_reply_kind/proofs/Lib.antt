@@ -1,0 +1,4 @@
+mod ReplyLemmas
+mod CodeLemmas
+-- what the proofs of other crates may cite
+pub mod Lemmas
