@@ -7,7 +7,7 @@ use Rattle.gft_command.specs.declared.command.Command.{Command}
 use Rattle.gft_command.specs.declared.command.Command.TheVariants as commands
 use Rattle.gft_opts.specs.declared.TheConstants.{MAX_TARGETS}
 use Rattle.gft_outside.specs.Words.{IsNewLane, LaneState}
-use Rattle.gft_session.specs.declared.reply_kind.ReplyKind.{ReplyKind}
+use Rattle.gft_reply_kind.specs.declared.ReplyKind.{ReplyKind}
 use Rattle.gft_session.specs.Brought.{Brought}
 use Rattle.gft_session.specs.Fit.{IsFit}
 use Rattle.gft_session.specs.Jobs.{Job, retrieve_refusal, store_refusal}

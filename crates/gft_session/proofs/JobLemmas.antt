@@ -1,27 +1,15 @@
 -- Which lines that begin a transfer are refused before the library is asked.
-use Rattle.std.proofs.Common.{◌≡◌, ℕ, Bool, true, false, not, ◌&&◌, ◌==◌, ◌⊎◌, if◌then◌else◌, eqb, ltb, List, length, get_or, Option, Some, None, refl, sym, ap, subst, inl, inr, arith}
-use Rattle.std.proofs.lemmas.Bool.{le-ltb, ne_eqb}
-use Rattle.gft_base.specs.Words.{dot}
-use Rattle.gft_base.proofs.Lemmas.{position-none_from}
-use Rattle.gft_text.specs.declared.TheConstants.{MAX_NAME_LEN}
-use Rattle.gft_text.specs.Name.{is_name_byte}
-use Rattle.gft_text.specs.Words.{IsName, WritesName, fault_of, without_slash}
+use Rattle.std.proofs.Common.{◌≡◌, ℕ, Bool, true, false, not, ◌&&◌, ◌==◌, ◌⊎◌, if◌then◌else◌, List, length, Option, Some, None, refl, sym, subst, inl, inr}
+use Rattle.gft_text.proofs.Lemmas.{names}
+use Rattle.gft_text.specs.Words.{IsName, WritesName, without_slash}
 use Rattle.gft_range.specs.declared.range.Range.{Range}
-use Rattle.gft_session.specs.declared.reply_kind.ReplyKind.{ReplyKind}
+use Rattle.gft_reply_kind.specs.declared.ReplyKind.{ReplyKind}
 use Rattle.gft_session.specs.Jobs.{is_binary, is_empty, is_name, refusal}
 use Rattle.gft_session.specs.Settings.{State}
 
-no_fault : (name : List ℕ) → IsName name → fault_of name ≡ None
-no_fault name is =
-    let no_bad = position-none_from (λ b. not (is_name_byte b)) name (λ k d lt. ap not (is.bytes k d lt)) in
-    let some : eqb (length name) 0 ≡ false = ne_eqb _ _ (omega arith) in
-    let visible : eqb (get_or name 0 0) dot ≡ false = ne_eqb _ _ is.visible in
-    let short : ltb MAX_NAME_LEN (length name) ≡ false = le-ltb _ _ is.short in
-    rw (no_bad, some, visible, short, is.foreign) refl
-
 -- the path writes the name, so it isn't refused
 pub writes_one : (path name : List ℕ) → WritesName path name → is_name path ≡ true
-writes_one path name writes = rw (no_fault (without_slash path) (subst IsName writes.written writes.legal)) refl
+writes_one path name writes = rw (names (without_slash path) (subst IsName writes.written writes.legal)) refl
 
 -- no list is kept, or the line is of a whole file
 pub no_list : (is_part : Bool) (rest : List Range) (count : ℕ) → count ≡ length rest → (is_part ≡ false) ⊎ (count ≡ 0) → (is_part && not (is_empty rest)) ≡ false

@@ -2,9 +2,9 @@ mod PutLemmas
 mod QuitLemmas
 mod HearingLemmas
 mod PortLemmas
-mod ReplyLemmas
 mod RefusalLemmas
 mod SessionLemmas
 mod FitLemmas
 mod JobLemmas
+mod MarkerLemmas
 mod StoringLemmas

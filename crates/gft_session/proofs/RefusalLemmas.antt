@@ -1,33 +1,28 @@
 -- Each reply of code 425 has its fault of the link.
-use Rattle.std.proofs.Common.{◌≡◌, ◌≤◌, ◌⊎◌, ℕ, ◌+◌, ◌==◌, ◌||◌, ◌&&◌, not, Bool, true, false, MatchBool, MatchOption, if◌then◌else◌, List, [], ◌∷◌, length, map, slice_get, Option, None, Some, Result, Ok, Err, refl, ap, subst, zero, suc, inl, inr, arith}
+use Rattle.std.proofs.Common.{◌≡◌, ◌≤◌, ◌⊎◌, ℕ, ◌+◌, ◌==◌, ◌||◌, ◌&&◌, not, Bool, true, false, MatchBool, MatchOption, if◌then◌else◌, List, [], ◌∷◌, ◌++◌, length, map, slice_get, Option, None, Some, Result, Ok, Err, refl, ap, subst, zero, suc, inl, inr, arith}
 use Rattle.std.proofs.lemmas.Option.{same_Some}
 use Rattle.gft_reply.specs.declared.reply.Reply.{Reply}
 use Rattle.gft_text.specs.declared.host_port.HostPort.{HostPort}
 use Rattle.gft_command.specs.declared.command.Command.{Command}
 use Rattle.gft_command.specs.declared.command.Command.TheVariants as commands
-use Rattle.gft_command.specs.declared.error.CommandError.{CommandError}
-use Rattle.gft_command.specs.declared.error.CommandError.TheVariants as unread
 use Rattle.gft_outside.specs.Words.{LaneState, LinkState, NotHandedOut}
 use Rattle.gft_outside.specs.declared.link.LinkError.{LinkError}
 use Rattle.gft_outside.specs.declared.link.LinkError.TheVariants as errors
 use Rattle.gft_text.specs.declared.name.NameError.{NameError}
 use Rattle.gft_text.specs.declared.name.NameError.TheVariants as name_errors
-use Rattle.gft_book.specs.declared.usage.Use.{Use}
-use Rattle.gft_book.specs.declared.usage.Use.TheVariants as uses
 use Rattle.gft_library.specs.declared.answer.Word.{Word}
 use Rattle.gft_library.specs.declared.answer.Word.TheVariants as words
-use Rattle.gft_library.specs.declared.error.LibraryError.{LibraryError}
-use Rattle.gft_library.specs.declared.error.LibraryError.TheVariants as errors_of
 use Rattle.gft_library.specs.Words.{LibraryCall, Removes, Sizes}
-use Rattle.gft_session.specs.declared.reply_kind.ReplyKind.{ReplyKind}
-use Rattle.gft_session.specs.declared.reply_kind.ReplyKind.TheVariants as kinds
+use Rattle.gft_reply_kind.specs.declared.ReplyKind.{ReplyKind}
+use Rattle.gft_reply_kind.specs.declared.ReplyKind.TheVariants as kinds
 use Rattle.gft_session.specs.declared.settings.Login.{Login}
 use Rattle.gft_session.specs.declared.settings.Login.TheVariants as logins
 use Rattle.gft_session.specs.Asking.{AsksLibrary, name_reply, word_reply}
 use Rattle.gft_session.specs.Brought.{Brought}
 use Rattle.gft_session.specs.Conversation.{Leads, RoseBy, Turn, refusals, refusals_in}
 use Rattle.gft_session.specs.Listeners.{Returns}
-use Rattle.gft_session.specs.Replies.{busy_reply, cause_reply, library_reply, reply_of, unread_reply}
+use Rattle.gft_reply_kind.specs.Words.{reply_of}
+use Rattle.gft_reply_kind.proofs.Lemmas.{other_code, tells_link}
 use Rattle.gft_pass.specs.declared.cause.Cause.{Cause}
 use Rattle.gft_pass.specs.declared.cause.Cause.TheVariants as causes
 use Rattle.gft_book.specs.declared.usage.How.{How}
@@ -36,7 +31,9 @@ use Rattle.gft_book.specs.Words.{SettledFile, book_of, start_now}
 use Rattle.gft_library.specs.Words.{word_of_file}
 use Rattle.gft_receive.proofs.Lemmas.{link_failed}
 use Rattle.gft_session.specs.Jobs.{Job, is_binary, is_empty, is_name, refusal, retrieve_refusal, store_refusal}
-use Rattle.gft_session.specs.Receiving.{AnswersRetrieve, AnswersStore, StoresBy, endings, limits_for}
+use Rattle.gft_range.specs.declared.range.Range.{Range}
+use Rattle.gft_receive.specs.Words.{marker_of}
+use Rattle.gft_session.specs.Receiving.{AnswersRetrieve, AnswersStore, StoresBy, endings, limits_for, marks_due}
 use Rattle.gft_session.specs.Saying.{AnswersListen, IsPassive, IsStriped, Says, SaysAndReturns, folder_reply, is_root, mode_reply, pass_reply, protection_reply, refused_reply, structure_reply, type_reply}
 use Rattle.gft_session.specs.Settings.{Around, State, World, held, is_in}
 use Rattle.gft_session.specs.Table.{AnswersLine, Row, is_free}
@@ -46,47 +43,10 @@ use Rattle.gft_session.specs.Table.{AnswersLine, Row, is_free}
 abbrev pub Quiet : ReplyKind → Type 0
 Quiet kind = refusals (reply_of kind ∷ []) ≡ 0
 
-is_link : Cause → Bool
-is_link causes.LinkFailed = true
-is_link _ = false
-
-is_loud : ReplyKind → Bool
-is_loud kinds.CannotListen = true
-is_loud (kinds.Failed why) = is_link why
-is_loud _ = false
-
-quiet_unread : (why : CommandError) → Quiet (kinds.Unread why)
-unfolding reply_of unread_reply
-quiet_unread unread.UnknownVerb = refl
-quiet_unread unread.MissingParameter = refl
-quiet_unread unread.BadParameter = refl
-quiet_unread unread.OutOfMemory = refl
-
-quiet_busy : (found : Use) → refusals (busy_reply found ∷ []) ≡ 0
-unfolding busy_reply
-quiet_busy uses.Storing = refl
-quiet_busy _ = refl
-
-quiet_library : (why : LibraryError) → Quiet (kinds.Refused why)
-unfolding reply_of library_reply
-quiet_library (errors_of.Busy found) = quiet_busy found
-quiet_library _ = refl
-
-quiet_cause : (why : Cause) → is_link why ≡ false → Quiet (kinds.Failed why)
-unfolding reply_of cause_reply is_link
-quiet_cause causes.LinkFailed loud = absurd (cc loud)
-quiet_cause _ loud = refl
-
-quiet : (kind : ReplyKind) → is_loud kind ≡ false → Quiet kind
-unfolding reply_of is_loud
-quiet kinds.CannotListen loud = absurd (cc loud)
-quiet (kinds.Unread why) loud = quiet_unread why
-quiet (kinds.Refused why) loud = quiet_library why
-quiet (kinds.Failed why) loud = quiet_cause why loud
-quiet _ loud = refl
+quiet : (kind : ReplyKind) → tells_link kind ≡ false → Quiet kind
+quiet kind other = rw (other_code kind other) refl
 
 quiet_pass : (login : Login) → Quiet (pass_reply login)
-unfolding is_loud
 quiet_pass logins.Named = quiet kinds.LoggedIn refl
 quiet_pass _ = quiet kinds.UserFirst refl
 
@@ -95,23 +55,18 @@ quiet_if true x y p q = p
 quiet_if false x y p q = q
 
 quiet_type : (letter : ℕ) → Quiet (type_reply letter)
-unfolding is_loud
 quiet_type letter = quiet_if (letter == 73) _ _ (quiet kinds.TypeImage refl) (quiet_if (letter == 65) _ _ (quiet kinds.TypeAscii refl) (quiet kinds.NoSuchType refl))
 
 quiet_mode : (letter : ℕ) → Quiet (mode_reply letter)
-unfolding is_loud
 quiet_mode letter = quiet_if (letter == 69) _ _ (quiet kinds.ModeExtended refl) (quiet_if (letter == 83) _ _ (quiet kinds.ModeStream refl) (quiet kinds.NoSuchMode refl))
 
 quiet_structure : (letter : ℕ) → Quiet (structure_reply letter)
-unfolding is_loud
 quiet_structure letter = quiet_if (letter == 70) _ _ (quiet kinds.StructureFile refl) (quiet kinds.NoSuchStructure refl)
 
 quiet_protection : (letter : ℕ) → Quiet (protection_reply letter)
-unfolding is_loud
 quiet_protection letter = quiet_if (letter == 78) _ _ (quiet kinds.NoProtection refl) (quiet kinds.OnlyNoProtection refl)
 
 quiet_folder : (path : List ℕ) → Quiet (folder_reply path)
-unfolding is_loud
 quiet_folder path = quiet_if (is_root path) _ _ (quiet kinds.FolderIsRoot refl) (quiet kinds.NoSuchFolder refl)
 
 at_most_if : (b : Bool) → (if b then 1 else 0) + 0 ≤ 1
@@ -135,7 +90,6 @@ returns_rose : {L X : Type 0} (lane : L → LaneState) (kind : ReplyKind) (after
 returns_rose lane kind after old brought new quiet_kind row = rw (row.reply, quiet_kind) (returned_rose lane old.link new.link _ row.returned)
 
 refused_rose : {L X : Type 0} (why : LinkError) (old new : LinkState L X) → NotHandedOut old new why → RoseBy (refusals (reply_of (refused_reply why) ∷ [])) old.faults new.faults
-unfolding is_loud
 refused_rose errors.Failed old new refused = omega (arith, at_most_one (reply_of kinds.CannotListen), refused.rose)
 refused_rose errors.OutOfMemory old new same = rw (quiet kinds.OutOfMemory refl, same) (omega arith)
 
@@ -147,15 +101,12 @@ listen_rose lane stripes IsNamed old brought new named (inr row) =
     rw (row.reply, named row.places row.kind row.named) (omega (arith, row.listens.handed_out.faults, back))
 
 passive_quiet : (places : List HostPort) (kind : ReplyKind) → IsPassive places kind → Quiet kind
-unfolding is_loud
 passive_quiet places kind named = rw named.2 (quiet (kinds.Passive named.0) refl)
 
 striped_quiet : (places : List HostPort) (kind : ReplyKind) → IsStriped places kind → Quiet kind
-unfolding is_loud
 striped_quiet places kind named = rw named.2 (quiet (kinds.Striped named.0) refl)
 
 quiet_word : (word : Word) → Quiet (word_reply word)
-unfolding is_loud
 quiet_word (words.Length len) = quiet (kinds.Length len) refl
 quiet_word words.Removed = quiet kinds.Deleted refl
 quiet_word (words.Stored len) = quiet kinds.Complete refl
@@ -163,7 +114,6 @@ quiet_word (words.Part len) = quiet kinds.PartStored refl
 quiet_word (words.No why) = quiet (kinds.Refused why) refl
 
 quiet_name : (why : NameError) → Quiet (name_reply why)
-unfolding is_loud
 quiet_name (name_errors.BadName at) = quiet kinds.BadName refl
 quiet_name name_errors.OutOfMemory = quiet kinds.OutOfMemory refl
 
@@ -177,7 +127,6 @@ asks_rose call path old brought new row = rw (asks_quiet call path brought row.0
 -- ---- lines that begin a transfer
 
 quiet_refusal : {L : Type 0} (state : State L) (path : List ℕ) (is_part is_ready : Bool) (last why : ReplyKind) → Quiet last → refusal state path is_part is_ready last ≡ Some why → Quiet why
-unfolding is_loud
 quiet_refusal state path is_part is_ready last why quiet_last is =
     chosen (not (is_binary state.transfer_type state.mode)) _ _ why (quiet kinds.SetTypeAndMode refl)
     (chosen (is_part && not (is_empty state.rest)) _ _ why (quiet kinds.RestElsewhere refl)
@@ -193,7 +142,6 @@ by_refusal None none some row = none refl row
 by_refusal (Some why) none some row = some why refl row
 
 retrieve_rose : {L X : Type 0} (path : List ℕ) (is_part : Bool) (old : World L X) (brought : Brought) (new : World L X) → AnswersRetrieve path is_part old brought new → RoseBy (refusals brought.replies) old.link.faults new.link.faults
-unfolding is_loud
 retrieve_rose path is_part old brought new (inl memory) = says_rose _ _ _ _ _ (quiet kinds.OutOfMemory refl) memory
 retrieve_rose path is_part old brought new (inr row) =
     by_refusal (retrieve_refusal old.state path is_part) (λ none says. says_rose _ _ _ _ _ (quiet kinds.NotBuilt refl) says)
@@ -212,7 +160,6 @@ refusals_two one other a b = omega (arith, a, b)
 
 -- the last replies have a 425 only where the end is the link's
 endings_quiet : (end : Result SettledFile Cause) → (end ≡ Err causes.LinkFailed) ⊎ (refusals (map reply_of (endings end)) ≡ 0)
-unfolding is_loud is_link
 endings_quiet (Ok file) = inr (quiet_word (word_of_file file))
 endings_quiet (Err causes.LinkFailed) = inl refl
 endings_quiet (Err causes.Aborted) = inr (refusals_two (reply_of (kinds.Failed causes.Aborted)) (reply_of kinds.AbortDone) (quiet (kinds.Failed causes.Aborted) refl) (quiet kinds.AbortDone refl))
@@ -231,20 +178,23 @@ endings_quiet (Err (causes.RangesFull kept)) = inr (quiet (kinds.Failed (causes.
 endings_quiet (Err causes.Memory) = inr (quiet (kinds.Failed causes.Memory) refl)
 
 refusals_opening : (replies : List Reply) → refusals (reply_of kinds.Opening ∷ replies) ≡ refusals replies
-unfolding is_loud
 refusals_opening replies = omega (arith, quiet kinds.Opening refl)
+
+refusals_markers : (marks : List (List Range)) (rest : List Reply) → refusals (map marker_of marks ++ rest) ≡ refusals rest
+refusals_markers [] rest = refl
+refusals_markers (ranges ∷ marks) rest = omega (arith, refusals_markers marks rest)
 
 stores_rose : {L D X : Type 0} (around : Around L D) (part : Option ℕ) (name : List ℕ) (how : How) (lanes : List L) (old : LinkState L X) (brought : Brought) (new : LinkState L X) → StoresBy around part name how lanes old brought new → RoseBy (refusals brought.replies) old.faults new.faults
 stores_rose around part name how lanes old brought new row =
-    let none = refusals_opening (map reply_of (endings row.end)) in
-    rw (row.replies, none) (elim (endings_quiet row.end) [
-      | inl is ↦ let failed = link_failed around.lane (limits_for around part) (start_now (book_of around.drive row.begun)) lanes row.back (keep_of around.drive row.after.keep) (rw is at row.receives) in
+    let marks = marks_due row.put_failed row.told row.left in
+    let none = refusals_opening (map marker_of marks ++ map reply_of (endings row.end)) in
+    rw (row.replies, none, refusals_markers marks (map reply_of (endings row.end))) (elim (endings_quiet row.end) [
+      | inl is ↦ let failed = link_failed around.lane (limits_for around part) (start_now (book_of around.drive row.begun)) lanes row.back (keep_of around.drive row.after.keep) row.put_failed (rw is at row.receives) in
           rw is (omega (arith, at_most_one (reply_of (kinds.Failed causes.LinkFailed)), fault_rose around.lane old new row.back failed.place failed.lane failed.at failed.fault row.returned))
       | inr zero_of ↦ rw zero_of (returned_rose around.lane old new row.back row.returned)
     ])
 
 store_rose : {L D X : Type 0} (around : Around L D) (job : Job) (old : World L X) (brought : Brought) (new : World L X) → AnswersStore around job old brought new → RoseBy (refusals brought.replies) old.link.faults new.link.faults
-unfolding is_loud
 store_rose around job old brought new (inl memory) = says_rose _ _ _ _ _ (quiet kinds.OutOfMemory refl) memory
 store_rose around job old brought new (inr row) =
     by_refusal (store_refusal old.state job) (λ none told. elim told [
@@ -254,7 +204,6 @@ store_rose around job old brought new (inr row) =
     (λ why is says. says_rose _ _ _ _ _ (quiet_refusal old.state job.path _ _ kinds.ListenFirst why (quiet kinds.ListenFirst refl) is) says) row
 
 row_rose : {L D X : Type 0} (around : Around L D) (command : Command) (old : World L X) (brought : Brought) (new : World L X) → Row around command old brought new → RoseBy (refusals brought.replies) old.link.faults new.link.faults
-unfolding is_loud
 row_rose around (commands.User _) old brought new row = says_rose _ _ _ _ _ (quiet kinds.PasswordPlease refl) row
 row_rose around (commands.Pass _) old brought new row = says_rose _ _ _ _ _ (quiet_pass old.state.login) row
 row_rose around commands.Quit old brought new row = says_rose _ _ _ _ _ (quiet kinds.Goodbye refl) row
@@ -287,11 +236,10 @@ by_test true P Q R p q row = p row
 by_test false P Q R p q row = q row
 
 line_rose : {L D X : Type 0} (around : Around L D) (line : List ℕ) (old : World L X) (brought : Brought) (new : World L X) → AnswersLine around line old brought new → RoseBy (refusals brought.replies) old.link.faults new.link.faults
-unfolding is_loud
 line_rose around line old brought new (inl reads) =
     by_test (is_free reads.command || is_in old.state.login) _ _ _
     (λ row. row_rose around reads.command old brought new row) (λ first. says_rose _ _ _ _ _ (quiet kinds.LogInFirst refl) first) reads.answers
-line_rose around line old brought new (inr refuses) = says_rose _ _ _ _ _ (quiet_unread refuses.why) refuses.says
+line_rose around line old brought new (inr refuses) = says_rose _ _ _ _ _ (quiet (kinds.Unread refuses.why) refl) refuses.says
 
 -- the replies of code 425 are at most as many as the link's count rose by
 pub leads_rose : {L D X : Type 0} (around : Around L D) (start : World L X) (turns : List Turn) (now : World L X) → Leads around start turns now → RoseBy (refusals_in turns) start.link.faults now.link.faults

@@ -13,10 +13,9 @@ use Rattle.gft_session.specs.declared.session_end.Stopped.{Stopped}
 use Rattle.gft_session.specs.declared.session_end.Stopped.TheVariants as stops
 use Rattle.gft_session.specs.Conversation.{AreTaken, Closes, Converses, HasClosing, HasNoQuit, IsCauseOf, IsCut, IsCutOff, IsQuit, SoFar, Turn, answers_in, before_last, closing, due, end_of, greeting, inputs_of, lines_of, replies_in}
 use Rattle.gft_session.specs.Hearing.{HearsLine, IsReason, StopsHearing, overlong_at, taken_at}
-use Rattle.gft_session.specs.Replies.{text_of_all}
+use Rattle.gft_session.specs.Brought.{Output, text_of_all}
 use Rattle.gft_session.specs.Settings.{Around, World}
 use Rattle.gft_library.specs.Words.{NamedWord}
-use Rattle.gft_session.specs.Brought.{Output}
 use Rattle.gft_session.specs.Steps.{AreBefore, Gives, Puts, Takes, Tallies, WasRefused, list_of}
 use Rattle.gft_session.specs.Table.{AnswersLine}
 use Rattle.gft_session.proofs.HearingLemmas.{said-append}

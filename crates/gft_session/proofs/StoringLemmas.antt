@@ -1,9 +1,12 @@
 -- A STOR or ESTO, from its line to its last reply.
 use Rattle.std.proofs.Common.{◌≡◌, ◌≤◌, ◌⊎◌, ℕ, Bool, true, false, if◌then◌else◌, ◌+◌, List, [], ◌∷◌, ◌++◌, length, map, Option, None, Some, Result, Ok, Err, IsOk, OnOk, refl, sym, ap, ◌∙◌, subst, inl, inr, append_assoc, append-nil, unwrap_or, arith, MatchOption, MatchBool}
+use Rattle.std.specs.Prelude.{IfSome, IsSome}
+use Rattle.std.specs.List.{AllByRecursion}
 use Rattle.std.specs.Io.KnownBytes.{Appends}
 use Rattle.gft_base.specs.declared.TheConstants.{LIMIT}
-use Rattle.gft_drive.specs.Words.{IsPartOf}
-use Rattle.gft_keep.specs.Words.{keep_of}
+use Rattle.gft_drive.specs.Words.{IsPartOf, Sent}
+use Rattle.gft_keep.specs.Words.{KeepState, keep_of}
+use Rattle.gft_range.specs.declared.range.Range.{Range}
 use Rattle.gft_reply.specs.declared.reply.Reply.{Reply}
 use Rattle.gft_reply.specs.Words.{reply_text}
 use Rattle.gft_command.specs.Words.{IsCommand}
@@ -13,23 +16,24 @@ use Rattle.gft_pass.specs.declared.cause.Cause.{Cause}
 use Rattle.gft_pass.specs.declared.cause.Cause.TheVariants as causes
 use Rattle.gft_pass.specs.Words.{Lane}
 use Rattle.gft_book.specs.declared.usage.How.{How}
-use Rattle.gft_book.specs.Words.{EqualsSource, KeptSince, Seen, SettledFile, book_of, start_now}
+use Rattle.gft_book.specs.declared.Mark.{Mark}
+use Rattle.gft_book.specs.Words.{EqualsSource, KeptSince, Seen, SettledFile, book_of, named_by, start_now}
 use Rattle.gft_library.specs.Words.{Asking, IsFor, NamedWord, NamesSeen, StoresName, word_of_file}
 use Rattle.gft_library.specs.declared.answer.Word.{Word}
 use Rattle.gft_library.specs.declared.answer.Word.TheVariants as words
-use Rattle.gft_receive.specs.Words.{Receives, WholeRunsEndWell}
+use Rattle.gft_receive.specs.Words.{LiesBelow, Receives, Tells, WholeRunsEndWell, marker_of}
 use Rattle.gft_outside.specs.Words.{LinkState}
 use Rattle.std.proofs.lemmas.Option.{same_Some}
 use Rattle.gft_session.specs.declared.session_end.Stopped.{Stopped}
 use Rattle.gft_session.specs.declared.session_end.Stopped.TheVariants as stops
-use Rattle.gft_session.specs.Brought.{Brought, Output, brought_of}
+use Rattle.gft_session.specs.Brought.{Brought, Output, brought_of, text_of_all}
 use Rattle.gft_session.specs.Jobs.{Job, retrieve_refusal, store_refusal, stored_by}
-use Rattle.gft_session.specs.declared.reply_kind.ReplyKind.TheVariants as kinds
+use Rattle.gft_reply_kind.specs.declared.ReplyKind.TheVariants as kinds
 use Rattle.gft_session.specs.Listeners.{Returns}
 use Rattle.gft_session.specs.Asking.{to_take, word_reply}
 use Rattle.gft_session.specs.Next.{Begins, BeginsBy, CountsTaken, IsBegun, IsRow, StoresOrNot}
-use Rattle.gft_session.specs.Receiving.{AnswersRetrieve, AnswersStore, StoresBy, answer_at_end, endings, failures, limits_for}
-use Rattle.gft_session.specs.Replies.{HasText, reply_of, text_of_all}
+use Rattle.gft_session.specs.Receiving.{AnswersRetrieve, AnswersStore, StoresBy, answer_at_end, endings, failures, limits_for, marks_due}
+use Rattle.gft_reply_kind.specs.Words.{HasText, reply_of}
 use Rattle.gft_session.specs.Settings.{Around, World, held}
 use Rattle.gft_session.specs.declared.next.Begun.{Begun}
 use Rattle.gft_session.specs.declared.next.Next.{Next}
@@ -37,6 +41,7 @@ use Rattle.gft_session.specs.declared.next.Next.TheVariants as next
 use Rattle.gft_session.specs.declared.response.Response.{Response}
 use Rattle.gft_session.specs.Steps.{AreBefore, Gives, Puts, PutsAll, Takes, Tallies, WasRefused, list_of}
 use Rattle.gft_session.specs.Table.{Row}
+use Rattle.gft_session.proofs.MarkerLemmas.{names_source}
 use Rattle.gft_session.proofs.PutLemmas.{appends_more, takes_whole, tallies_none}
 
 -- ---- what is put
@@ -215,10 +220,18 @@ aborts cause first result a b c same ok one other =
 
 -- ---- transfers
 
+-- no mark was made
+nothing_told : (sent : Option Sent) (keep : KeepState) (marks : List Mark) (why : Cause) → Tells sent keep marks marks (Err why) false [] []
+nothing_told sent keep marks why = record { marks = sym (append-nil (named_by marks)); held = tt; below = none_below sent; whole = tt }
+  where
+    none_below : (sent : Option Sent) → IfSome sent (λ s. IsSome keep.drive.contents → AllByRecursion (LiesBelow (length s.source)) [])
+    none_below None = tt
+    none_below (Some s) = λ told. tt
+
 -- memory was refused for the 150, or its put failed: no lane was asked
 pub nothing_received : {L D X : Type 0} (around : Around L D) (part : Option ℕ) (name : List ℕ) (how : How) (lanes : List L) (old new : LinkState L X) (begun : Seen D) (passes : List Lane) →
     IsBegun around.drive name how (length lanes) begun passes → KeptSince (start_now (book_of around.drive begun)) (keep_of around.drive begun.keep) → Returns around.lane old new lanes →
-    StoresBy around part name how lanes old (record { replies = map reply_of (kinds.Opening ∷ kinds.Failed causes.Memory ∷ []); answer = None }) new
+    StoresBy around part name how lanes old (record { replies = reply_of kinds.Opening ∷ map reply_of (endings (Err causes.Memory)); answer = None }) new
 nothing_received around part name how lanes old new begun passes is kept returned = record {
   before = is.before;
   begun = begun;
@@ -228,22 +241,28 @@ nothing_received around part name how lanes old new begun passes is kept returne
   label = is.label;
   back = lanes;
   end = Err causes.Memory;
+  put_failed = false;
   receives = inr (refl, refl);
   kept = kept;
   equals = tt;
-  complete = (λ s rest of_it left told shift idle whole. tt, λ left untold idle whole. tt);
+  complete = λ no. (λ s rest of_it left told shift idle whole. tt, λ left untold idle whole. tt);
+  told = [];
+  left = [];
+  tells = nothing_told (around.sent name) (keep_of around.drive begun.keep) begun.marks causes.Memory;
+  names = tt;
   returned = returned;
   replies = refl;
   answer = refl;
 }
 
 -- the lanes were asked, up to the end
-pub has_received : {L D X : Type 0} (around : Around L D) (part : Option ℕ) (name : List ℕ) (how : How) (lanes back : List L) (old new : LinkState L X) (begun after : Seen D) (passes : List Lane) (end : Result SettledFile Cause) →
-    IsBegun around.drive name how (length lanes) begun passes → Receives around.lane (limits_for around part) (start_now (book_of around.drive begun)) lanes back (keep_of around.drive after.keep) end →
+pub has_received : {L D X : Type 0} (around : Around L D) (part : Option ℕ) (name : List ℕ) (how : How) (lanes back : List L) (old new : LinkState L X) (begun after : Seen D) (passes : List Lane) (end : Result SettledFile Cause) (put_failed : Bool) (told left : List (List Range)) →
+    IsBegun around.drive name how (length lanes) begun passes → Receives around.lane (limits_for around part) (start_now (book_of around.drive begun)) lanes back (keep_of around.drive after.keep) end put_failed →
     KeptSince (start_now (book_of around.drive begun)) (keep_of around.drive after.keep) → OnOk end (EqualsSource (around.sent name) (book_of around.drive begun) (keep_of around.drive after.keep)) →
-    WholeRunsEndWell around.lane around.sent (limits_for around part) (start_now (book_of around.drive begun)) begun.stage lanes back end → Returns around.lane old new back →
-    StoresBy around part name how lanes old (record { replies = map reply_of (kinds.Opening ∷ endings end); answer = answer_at_end name end }) new
-has_received around part name how lanes back old new begun after passes end is receives kept equals complete returned = record {
+    (put_failed ≡ false → WholeRunsEndWell around.lane around.sent (limits_for around part) (start_now (book_of around.drive begun)) begun.stage lanes back end) →
+    Tells (around.sent name) (keep_of around.drive after.keep) begun.marks after.marks end put_failed told left → Returns around.lane old new back →
+    StoresBy around part name how lanes old (record { replies = reply_of kinds.Opening ∷ (map marker_of (marks_due put_failed told left) ++ map reply_of (endings end)); answer = answer_at_end name end }) new
+has_received around part name how lanes back old new begun after passes end put_failed told left is receives kept equals complete tells returned = record {
   before = is.before;
   begun = begun;
   after = after;
@@ -252,10 +271,15 @@ has_received around part name how lanes back old new begun after passes end is r
   label = is.label;
   back = back;
   end = end;
+  put_failed = put_failed;
   receives = receives;
   kept = kept;
   equals = equals;
   complete = complete;
+  told = told;
+  left = left;
+  tells = tells;
+  names = names_source around.lane (limits_for around part) (around.sent name) (book_of around.drive is.before) (book_of around.drive begun) how (length lanes) passes lanes back (keep_of around.drive after.keep) end put_failed told left is.begins receives equals tells.whole;
   returned = returned;
   replies = refl;
   answer = refl;

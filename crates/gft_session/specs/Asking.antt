@@ -8,8 +8,8 @@ use Rattle.gft_library.specs.declared.answer.Word.TheVariants as words
 use Rattle.gft_library.specs.declared.error.LibraryError.{LibraryError}
 use Rattle.gft_library.specs.declared.error.LibraryError.TheVariants as refusals
 use Rattle.gft_library.specs.Words.{Answers, LibraryCall, NamedWord}
-use Rattle.gft_session.specs.declared.reply_kind.ReplyKind.{ReplyKind}
-use Rattle.gft_session.specs.declared.reply_kind.ReplyKind.TheVariants as kinds
+use Rattle.gft_reply_kind.specs.declared.ReplyKind.{ReplyKind}
+use Rattle.gft_reply_kind.specs.declared.ReplyKind.TheVariants as kinds
 use Rattle.gft_session.specs.Brought.{Brought, alone, brings}
 
 -- the reply for a word

@@ -15,18 +15,18 @@ use Rattle.gft_command.specs.declared.command.Command.TheVariants as commands
 use Rattle.gft_library.specs.Words.{NamedWord}
 use Rattle.gft_outside.specs.Words.{ControlInput, ControlState, Hears, LinkState, said}
 use Rattle.gft_session.specs.declared.config.Config.{Config}
-use Rattle.gft_session.specs.declared.reply_kind.ReplyKind.TheVariants as kinds
+use Rattle.gft_reply_kind.specs.declared.ReplyKind.TheVariants as kinds
 use Rattle.gft_session.specs.declared.session_end.SessionEnd.{SessionEnd}
 use Rattle.gft_session.specs.declared.session_end.SessionEnd.TheVariants as ends
 use Rattle.gft_session.specs.declared.session_end.Stopped.{Stopped}
 use Rattle.gft_session.specs.declared.session_end.Stopped.TheVariants as stops
 use Rattle.gft_session.specs.Hearing.{IsPatient, IsReason, overlong_at, taken_at}
 use Rattle.gft_session.specs.Listeners.{Returns}
-use Rattle.gft_session.specs.Replies.{reply_of, text_of_all}
+use Rattle.gft_reply_kind.specs.Words.{reply_of}
+use Rattle.gft_session.specs.Brought.{Brought, Output, text_of_all}
 use Rattle.gft_session.specs.Jobs.{Job, stored_by}
 use Rattle.gft_session.specs.Receiving.{AreHonest}
 use Rattle.gft_session.specs.Settings.{Around, State, World, held, start_world}
-use Rattle.gft_session.specs.Brought.{Brought, Output}
 use Rattle.gft_session.specs.Steps.{AreBefore, Gives, Tallies, list_of}
 use Rattle.gft_session.specs.Table.{AnswersLine}
 use Rattle.gft_opts.specs.declared.TheConstants.{MAX_TARGETS}

@@ -9,8 +9,8 @@ use Rattle.gft_book.specs.declared.usage.How.{How}
 use Rattle.gft_book.specs.declared.usage.How.TheVariants.{Esto, Fresh, Resume}
 use Rattle.gft_command.specs.declared.command.Command.{Command}
 use Rattle.gft_command.specs.declared.command.Command.TheVariants as commands
-use Rattle.gft_session.specs.declared.reply_kind.ReplyKind.{ReplyKind}
-use Rattle.gft_session.specs.declared.reply_kind.ReplyKind.TheVariants as kinds
+use Rattle.gft_reply_kind.specs.declared.ReplyKind.{ReplyKind}
+use Rattle.gft_reply_kind.specs.declared.ReplyKind.TheVariants as kinds
 use Rattle.gft_session.specs.declared.settings.Mode.{Mode}
 use Rattle.gft_session.specs.declared.settings.Mode.TheVariants as modes
 use Rattle.gft_session.specs.declared.settings.TransferType.{TransferType}

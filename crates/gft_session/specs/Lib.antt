@@ -1,4 +1,3 @@
-pub mod Replies
 pub mod Settings
 pub mod Listeners
 pub mod Saying

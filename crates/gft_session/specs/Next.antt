@@ -12,7 +12,7 @@ use Rattle.gft_session.specs.declared.next.Next.{Next}
 use Rattle.gft_session.specs.declared.next.Next.TheVariants as next
 use Rattle.gft_session.specs.Brought.{brought_of}
 use Rattle.gft_session.specs.Jobs.{IsHow, Job, store_refusal, stored_by}
-use Rattle.gft_session.specs.Replies.{HasText}
+use Rattle.gft_reply_kind.specs.Words.{HasText}
 use Rattle.gft_session.specs.Receiving.{AnswersStore}
 use Rattle.gft_session.specs.Settings.{Around, State, World, held, is_in, used_up}
 use Rattle.gft_session.specs.Table.{AnswersCommand, Row, is_free}

@@ -6,8 +6,8 @@ use Rattle.gft_text.specs.declared.host_port.HostPort.{HostPort}
 use Rattle.gft_outside.specs.Words.{LaneState}
 use Rattle.gft_outside.specs.declared.link.LinkError.{LinkError}
 use Rattle.gft_outside.specs.declared.link.LinkError.TheVariants as errors
-use Rattle.gft_session.specs.declared.reply_kind.ReplyKind.{ReplyKind}
-use Rattle.gft_session.specs.declared.reply_kind.ReplyKind.TheVariants as kinds
+use Rattle.gft_reply_kind.specs.declared.ReplyKind.{ReplyKind}
+use Rattle.gft_reply_kind.specs.declared.ReplyKind.TheVariants as kinds
 use Rattle.gft_session.specs.declared.settings.Login.{Login}
 use Rattle.gft_session.specs.declared.settings.Login.TheVariants as logins
 use Rattle.gft_session.specs.declared.settings.TransferType.{TransferType}

@@ -53,8 +53,8 @@ pub record Around (L D : Type 0) : Type 1 where
   -- what a drive is
   pub drive : D → DriveState
 
-abbrev pub around_of : {L D : Type 0} → Config → (L → LaneState) → (D → DriveState) → (List ℕ → Option Sent)
-    → Around L D
+abbrev pub around_of : {L D : Type 0} → Config → (L → LaneState) → (D → DriveState)
+    → (List ℕ → Option Sent) → Around L D
 around_of config lane drive sent = record {
   stripes = config.stripes;
   marker_bytes = config.marker_bytes;

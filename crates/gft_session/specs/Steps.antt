@@ -7,8 +7,7 @@ use Rattle.gft_reply.specs.declared.reply.Reply.{Reply}
 use Rattle.gft_library.specs.Words.{NamedWord}
 use Rattle.gft_session.specs.declared.session_end.Stopped.{Stopped}
 use Rattle.gft_session.specs.declared.session_end.Stopped.TheVariants as stops
-use Rattle.gft_session.specs.Brought.{Brought, Output}
-use Rattle.gft_session.specs.Replies.{text_of_all}
+use Rattle.gft_session.specs.Brought.{Brought, Output, text_of_all}
 
 -- memory was refused
 abbrev pub WasRefused : {T : Type 0} → Result T Stopped → Type 0

@@ -1,12 +1,12 @@
 -- The session table: from a world and one line to what the line brings and the world after it.
-use Rattle.std.specs.Prelude.{◌≡◌, ◌⊎◌, ◌||◌, Bool, true, false, MatchBool, if◌then◌else◌}
-use Rattle.std.specs.Prelude.{ℕ, List, [], ◌∷◌, length, None, Some}
+use Rattle.std.specs.Prelude.{◌≡◌, ◌⊎◌, ◌||◌, Bool, true, false, MatchBool}
+use Rattle.std.specs.Prelude.{ℕ, List, [], ◌∷◌, length, None, Some, if◌then◌else◌}
 use Rattle.gft_text.specs.declared.host_port.HostPort.{HostPort}
 use Rattle.gft_command.specs.Words.{IsCommand, RefusesLine}
 use Rattle.gft_command.specs.declared.command.Command.{Command}
 use Rattle.gft_command.specs.declared.command.Command.TheVariants as commands
 use Rattle.gft_command.specs.declared.error.CommandError.{CommandError}
-use Rattle.gft_session.specs.declared.reply_kind.ReplyKind.TheVariants as kinds
+use Rattle.gft_reply_kind.specs.declared.ReplyKind.TheVariants as kinds
 use Rattle.gft_session.specs.declared.settings.Login.TheVariants as logins
 use Rattle.gft_library.specs.Words.{Removes, Sizes}
 use Rattle.gft_session.specs.Asking.{AsksLibrary}
@@ -22,7 +22,8 @@ abbrev pub with_targets : {L : Type 0} → State L → List HostPort → State L
 with_targets state places = record state { side = Targets places }
 
 -- one row for each command
-abbrev pub Row : {L D X : Type 0} → Around L D → Command → World L X → Brought → World L X → Type 0
+abbrev pub Row : {L D X : Type 0} → Around L D → Command → World L X → Brought → World L X
+    → Type 0
 Row around (commands.User _) old brought new =
     Says kinds.PasswordPlease (record old.state { login = logins.Named }) old brought new
 Row around (commands.Pass _) old brought new =
@@ -86,15 +87,16 @@ abbrev pub dropped_by : {L : Type 0} → Command → State L → State L
 dropped_by command state = if is_transfer command then without_list state else state
 
 -- the login comes first
-abbrev pub AnswersCommand : {L D X : Type 0} → Around L D → Command → World L X → Brought → World L X → Type 0
+abbrev pub AnswersCommand : {L D X : Type 0} → Around L D → Command → World L X → Brought
+    → World L X → Type 0
 AnswersCommand around command old brought new =
     MatchBool (is_free command || is_in old.state.login)
     (Row around command old brought new)
     (Says kinds.LogInFirst (dropped_by command old.state) old brought new)
 
 -- the line is a command, and is answered
-pub record Reads {L D X : Type 0} (around : Around L D) (line : List ℕ) (old : World L X) (brought : Brought)
-    (new : World L X) : Type 0 where
+pub record Reads {L D X : Type 0} (around : Around L D) (line : List ℕ) (old : World L X)
+    (brought : Brought) (new : World L X) : Type 0 where
   pub command : Command
   pub reads : IsCommand line command
   pub answers : AnswersCommand around command old brought new
@@ -108,5 +110,6 @@ pub record Refuses {L X : Type 0} (line : List ℕ) (old : World L X) (brought :
   pub says : Says (kinds.Unread why) old.state old brought new
 
 -- the reading comes before the login
-abbrev pub AnswersLine : {L D X : Type 0} → Around L D → List ℕ → World L X → Brought → World L X → Type 0
+abbrev pub AnswersLine : {L D X : Type 0} → Around L D → List ℕ → World L X → Brought → World L X
+    → Type 0
 AnswersLine around line old brought new = Reads around line old brought new ⊎ Refuses line old brought new

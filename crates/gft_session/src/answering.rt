@@ -10,13 +10,12 @@ ghost use Rattle.gft_session.specs.Brought.{output};
 ghost use Rattle.gft_session.specs.Conversation.{AnswersOne, IsConfig, IsHonestFor};
 ghost use Rattle.gft_session.specs.Fit.{IsFit};
 ghost use Rattle.gft_session.specs.Listeners.{HasHandedOut, KeepsCount};
-ghost use Rattle.gft_session.specs.Replies.{HasText, reply_of};
+ghost use Rattle.gft_reply_kind.specs.Words.{HasText, reply_of};
 ghost use Rattle.gft_session.specs.Settings.{around_of, state_of, world};
 ghost use Rattle.gft_session.specs.Steps.{HasStopped, Puts, Takes, Tallies, WasRefused, list_of};
 
 use crate::config::Config;
 use crate::next::Next;
-use crate::reply_kind::ReplyKind;
 use crate::response::{Response, alone};
 use crate::session_end::Stopped;
 use crate::settings::Settings;
@@ -26,6 +25,7 @@ use gft_command::{Command, parse};
 use gft_drive::{Origin, Sink};
 use gft_library::{Answer, Library, Tally};
 use gft_outside::{Clock, Control, Link, Shelf};
+use gft_reply_kind::ReplyKind;
 use gft_text::Lines;
 use std::alloc::Global;
 use std::sync::Wait;
@@ -34,7 +34,7 @@ use std::thread::Threads;
 /// Answers one line. Tells whether the session goes on.
 pub(crate) fn answer<
     C: Control,
-    W: Sink,
+    W: Sink + Send,
     K: Link,
     S: Shelf + Drop,
     T: Clock,

@@ -5,13 +5,13 @@ ghost use Rattle.gft_text.specs.Words.{RefusesName, WritesName, without_slash};
 ghost use Rattle.gft_library.specs.Words.{Removes, Sizes};
 ghost use Rattle.gft_session.specs.Asking.{AsksLibrary, name_reply};
 ghost use Rattle.gft_session.specs.Brought.{brought_of};
-ghost use Rattle.gft_session.specs.Replies.{HasText};
+ghost use Rattle.gft_reply_kind.specs.Words.{HasText};
 
-use crate::reply_kind::ReplyKind;
 use crate::response::{Response, alone, answered};
 use gft_drive::Origin;
 use gft_library::Library;
 use gft_outside::Shelf;
+use gft_reply_kind::ReplyKind;
 use gft_text::{NameError, Words, read_name};
 use std::alloc::Global;
 use std::sync::Wait;

@@ -1,15 +1,15 @@
 //! The rows of the table that ask nobody: a choice is kept, or is refused.
 
 ghost use Rattle.std.specs.Prelude.{◌≡◌};
-ghost use Rattle.gft_session.specs.Replies.{HasText};
+ghost use Rattle.gft_reply_kind.specs.Words.{HasText};
 ghost use Rattle.gft_session.specs.Saying.{after_mode, after_pass, after_type, folder_reply, mode_reply};
 ghost use Rattle.gft_session.specs.Saying.{pass_reply, protection_reply, structure_reply, type_reply};
 ghost use Rattle.gft_session.specs.Settings.{state_of, with_options, without_list};
 
-use crate::reply_kind::ReplyKind;
 use crate::settings::{Login, Mode, Settings, TransferType};
 use gft_opts::RetrOptions;
 use gft_range::RangeSet;
+use gft_reply_kind::ReplyKind;
 use gft_text::Words;
 
 /// USER (RFC 959, section 4.1.1): the login is undone, and a PASS line may follow.

@@ -5,16 +5,16 @@ ghost use Rattle.gft_opts.specs.declared.TheConstants.{MAX_TARGETS};
 ghost use Rattle.gft_session.specs.Listeners.{HasHandedOut, KeepsCount, ListensNot, ListensOn, Returns};
 ghost use Rattle.gft_session.specs.Listeners.{lanes_of, places_of};
 ghost use Rattle.gft_session.specs.Brought.{alone};
-ghost use Rattle.gft_session.specs.Replies.{HasText};
+ghost use Rattle.gft_reply_kind.specs.Words.{HasText};
 ghost use Rattle.gft_session.specs.Saying.{AnswersListen, IsPassive, IsStriped, SaysAndReturns};
 ghost use Rattle.gft_session.specs.Saying.{refused_reply};
 ghost use Rattle.gft_session.specs.Settings.{lanes_in, side_of, state_of, world};
 ghost use Rattle.gft_session.specs.Table.{with_targets};
 
-use crate::reply_kind::ReplyKind;
 use crate::settings::{DataSide, Settings};
 use gft_opts::{HostPorts, MAX_TARGETS};
 use gft_outside::{Link, LinkError, Listening};
+use gft_reply_kind::ReplyKind;
 use gft_text::HostPort;
 use std::alloc::Global;
 use std::mem;

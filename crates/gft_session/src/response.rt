@@ -3,8 +3,8 @@
 ghost use Rattle.std.specs.Prelude.{◌≡◌, None};
 ghost use Rattle.gft_session.specs.Asking.{is_want, to_take, word_reply};
 
-use crate::reply_kind::ReplyKind;
 use gft_library::{Answer, LibraryError, Word};
+use gft_reply_kind::ReplyKind;
 
 /// What is replied, and what a tally takes with it.
 #[derive(Drop)]

@@ -14,12 +14,12 @@ use crate::answering::{answer, say};
 use crate::config::Config;
 use crate::hearing::next_line;
 use crate::ports::release;
-use crate::reply_kind::ReplyKind;
 use crate::session_end::{SessionEnd, Stopped};
 use crate::settings::Settings;
 use gft_drive::{Origin, Sink};
 use gft_library::{Library, Tally};
 use gft_outside::{Clock, Control, Link, Shelf};
+use gft_reply_kind::ReplyKind;
 use gft_text::Lines;
 use std::alloc::Global;
 use std::sync::Wait;
@@ -35,7 +35,7 @@ use std::thread::Threads;
 /// for want of memory. The clock isn't asked.
 pub fn run_session<
     C: Control,
-    W: Sink,
+    W: Sink + Send,
     K: Link,
     S: Shelf + Drop,
     T: Clock,
@@ -86,7 +86,7 @@ pub fn run_session<
 /// The same, but for the lanes that are left: the settings have them.
 fn converse<
     C: Control,
-    W: Sink,
+    W: Sink + Send,
     K: Link,
     S: Shelf + Drop,
     T: Clock,

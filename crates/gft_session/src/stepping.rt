@@ -18,13 +18,13 @@ use crate::config::Config;
 use crate::jobs::{begin_store, retrieve};
 use crate::next::Next;
 use crate::ports::{passive, set_target, set_targets, striped};
-use crate::reply_kind::ReplyKind;
 use crate::response::alone;
 use crate::settings::{Login, Settings};
 use gft_command::Command;
 use gft_drive::Origin;
 use gft_library::Library;
 use gft_outside::{Link, Shelf};
+use gft_reply_kind::ReplyKind;
 use std::alloc::Global;
 use std::sync::Wait;
 

@@ -11,7 +11,7 @@ ghost use Rattle.gft_outside.specs.Words.{IsNewLane};
 ghost use Rattle.gft_session.specs.Brought.{output};
 ghost use Rattle.gft_session.specs.Next.{IsBegun};
 ghost use Rattle.gft_session.specs.Receiving.{AreHonestFor, StoresBy, failures};
-ghost use Rattle.gft_session.specs.Replies.{reply_of};
+ghost use Rattle.gft_reply_kind.specs.Words.{reply_of};
 ghost use Rattle.gft_session.specs.Settings.{around_of};
 ghost use Rattle.gft_session.specs.Steps.{Gives, HasStopped, PutsAll};
 
@@ -19,7 +19,6 @@ use crate::answering::{give, say};
 use crate::config::Config;
 use crate::next::Begun;
 use crate::ports::give_back;
-use crate::reply_kind::ReplyKind;
 use crate::response::answered;
 use crate::session_end::Stopped;
 use gft_book::Book;
@@ -28,6 +27,7 @@ use gft_library::{Library, Storing, Tally};
 use gft_outside::{Clock, Control, Link, Shelf};
 use gft_pass::Cause;
 use gft_receive::{Limits, Received, receive};
+use gft_reply_kind::ReplyKind;
 use gft_text::Lines;
 use std::alloc::Global;
 use std::sync::Wait;
@@ -36,7 +36,7 @@ use std::thread::Threads;
 /// Takes a transfer from its 150 to its last reply, and gives the lanes and the Book back before that.
 pub(crate) fn store<
     C: Control,
-    W: Sink,
+    W: Sink + Send,
     K: Link,
     S: Shelf + Drop,
     T: Clock,
@@ -99,12 +99,13 @@ pub(crate) fn store<
     };
     let Received {
         outcome,
+        put_failed,
         book,
-        lanes,
+        lanes: used,
     } = receive(
         rt, alloc, lanes, book, passes, control, lines, out, clock, &limits,
     );
-    give_back(link, lanes);
+    give_back(link, used);
     match outcome.end {
         Ok(finished) => match library.done_storing(rt, name, book, Some(finished)) {
             Some(answer) => give(alloc, answered(answer), out, tally),
@@ -112,6 +113,9 @@ pub(crate) fn store<
         },
         Err(cause) => {
             let _ = library.done_storing(rt, name, book, None);
+            if put_failed {
+                return Err(Stopped::OutFault);
+            }
             fail(alloc, cause, out)
         }
     }

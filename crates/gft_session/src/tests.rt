@@ -1,19 +1,19 @@
-ghost use Rattle.std.specs.Prelude.{◌≡◌, IfOk, true};
+ghost use Rattle.std.specs.Prelude.{◌≡◌, ◌≤◌, IfOk, true};
+
+mod restarts;
+mod scripts;
 
 use super::*;
-use crate::reply_kind::ReplyKind;
 use gft_base::OutOfMemory;
-use gft_book::{How, Use};
+use gft_book::How;
 use gft_core::Octets;
 use gft_drive::{Drive, MemoryDrive, MemorySink, Part, Unknown};
-use gft_eblock::{BadBlock, Header, encode};
+use gft_eblock::{Header, encode};
 use gft_library::{Library, LibraryError, MemoryTally, NoTally, Word};
 use gft_outside::{
     ControlItem, LaneItem, Listening, MemoryControl, MemoryLane, MemoryLink, MemoryShelf,
     NamedDrive, NoClock,
 };
-use gft_pass::Cause;
-use gft_range::Range;
 use gft_reply::{Replies, Reply, ReplyLines};
 use gft_text::{HostPort, read_host_port, read_name};
 use std::alloc::Global;
@@ -521,43 +521,6 @@ fn a_shelf_fails_once(rt: HostRuntime) -> Result<(), Fail> {
     Ok(())
 }
 
-#[test]
-fn refusals_of_the_library_have_texts(rt: HostRuntime) -> Result<(), Fail> {
-    let alloc = rt.alloc();
-    let missing = Range {
-        start: 64,
-        end: 100,
-    };
-    let rows: [(LibraryError, &[u8]); 7] = [
-        (
-            LibraryError::Busy {
-                found: Use::Storing,
-            },
-            b"450 Busy: storing.\r\n",
-        ),
-        (
-            LibraryError::CompleteAlready { len: 5 },
-            b"550 Complete already.\r\n",
-        ),
-        (
-            LibraryError::NotInJournal { missing },
-            b"554 REST names 64-100, which is not stored.\r\n",
-        ),
-        (LibraryError::Incomplete, b"550 Not complete.\r\n"),
-        (
-            LibraryError::TooManyNames,
-            b"452 Too many names: 65536.\r\n",
-        ),
-        (LibraryError::OutOfMemory, b"455 Out of memory.\r\n"),
-        (LibraryError::DriveFailed, b"451 Drive failed.\r\n"),
-    ];
-    for (why, want) in rows {
-        let text = ReplyKind::Refused(why).text(alloc)?;
-        assert_eq!(rt; text.as_slice(), want);
-    }
-    Ok(())
-}
-
 const BINARY: &[u8] = b"TYPE I\r\nMODE E\r\n";
 
 const BINARY_REPLIES: &[u8] = b"200 Type I.\r\n200 Mode E.\r\n";
@@ -602,16 +565,21 @@ fn transfers_are_refused_in_order(rt: HostRuntime) -> Result<(), Fail> {
     Ok(())
 }
 
-/// A lane on which one channel brings these blocks, each with its offset, and then, if `is_whole`, an EOF of
-/// total 1 and an EOD; it ends then.
-fn lane_of(alloc: Global, blocks: &[(u64, &[u8])], is_whole: bool) -> Result<MemoryLane, Fail> {
+/// A lane on which one channel brings these blocks, each with its offset, and then, if there is a total, an
+/// EOF with it and an EOD; it ends then. The calls of these numbers fail.
+fn lane_of(
+    alloc: Global,
+    blocks: &[(u64, &[u8])],
+    total: Option<u64>,
+    failing: Vec<u32>,
+) -> Result<MemoryLane, Fail> {
     let mut bytes = Vec::new(alloc);
     for &(offset, data) in blocks {
         bytes.extend_from_slice(&header(0, data.len() as u64, offset))?;
         bytes.extend_from_slice(data)?;
     }
-    if is_whole {
-        bytes.extend_from_slice(&header(64, 0, 1))?;
+    if let Some(total) = total {
+        bytes.extend_from_slice(&header(64, 0, total))?;
         bytes.extend_from_slice(&header(8, 0, 0))?;
     }
     let bytes = Octets::from_bytes(alloc, bytes.as_slice())?;
@@ -620,7 +588,12 @@ fn lane_of(alloc: Global, blocks: &[(u64, &[u8])], is_whole: bool) -> Result<Mem
         LaneItem::Bytes { channel: 0, bytes },
         LaneItem::Ended(0),
     ]?;
-    Ok(MemoryLane::new(items, Vec::new(alloc)))
+    Ok(MemoryLane::new(items, failing))
+}
+
+/// A lane that brings these blocks and is whole by itself.
+fn whole_lane(alloc: Global, blocks: &[(u64, &[u8])]) -> Result<MemoryLane, Fail> {
+    lane_of(alloc, blocks, Some(1), Vec::new(alloc))
 }
 
 fn header(flags: u8, count: u64, offset: u64) -> [u8; 17] {
@@ -643,7 +616,8 @@ fn link_over(alloc: Global, lanes: Vec<MemoryLane>) -> Result<MemoryLink, Fail> 
     Ok(MemoryLink::new(alloc, listening, Vec::new(alloc), Vec::new(alloc))?)
 }
 
-/// The replies behind the login and the settings to a peer that says this, and what a tally took.
+/// The replies behind the login and the settings to a peer that says this, and what a tally took. No mark
+/// but the last is made.
 fn stored<R: Threads + Wait + Sync>(
     rt: &R,
     alloc: Global,
@@ -651,6 +625,20 @@ fn stored<R: Threads + Wait + Sync>(
     link: &mut MemoryLink,
     script: &[u8],
 ) -> Result<(Vec<u8>, MemoryTally<MemoryShelf>), Fail> {
+    marked(rt, alloc, files, link, script, 67_108_864)
+}
+
+/// The same with a mark for so many bytes.
+fn marked<R: Threads + Wait + Sync>(
+    rt: &R,
+    alloc: Global,
+    files: &Files,
+    link: &mut MemoryLink,
+    script: &[u8],
+    marker_bytes: u64,
+) -> Result<(Vec<u8>, MemoryTally<MemoryShelf>), Fail>
+    requires { 1 ≤ marker_bytes }
+{
     let items = vec![in alloc;
         bytes(alloc, LOGIN)?,
         bytes(alloc, BINARY)?,
@@ -661,7 +649,7 @@ fn stored<R: Threads + Wait + Sync>(
     let mut tally = MemoryTally::new(alloc, 4)?;
     let config = Config {
         stripes: 1,
-        marker_bytes: 5,
+        marker_bytes,
         idle: 3,
     };
     run_session(
@@ -686,12 +674,13 @@ const LISTENING: &[u8] = b"227 Entering Passive Mode (127,0,0,1,200,10)\r\n";
 fn a_file_is_stored(rt: HostRuntime) -> Result<(), Fail> {
     let alloc = rt.alloc();
     let files = files_of(alloc, Vec::new(alloc), Vec::new(alloc));
-    let lane = lane_of(alloc, &[(0, b"hello")], true)?;
+    let lane = whole_lane(alloc, &[(0, b"hello")])?;
     let mut link = link_over(alloc, vec![in alloc; lane]?)?;
     let script = b"PASV\r\nSTOR a.dat\r\nSIZE a.dat\r\nSTOR a.dat\r\n";
     let (said, tally) = stored(&rt, alloc, &files, &mut link, script)?;
     let want =
-        b"150 Opening data connections.\r\n226 Transfer complete.\r\n213 5\r\n503 SPAS or PASV first.\r\n";
+        b"150 Opening data connections.\r\n111 Range Marker 0-5\r\n226 Transfer complete.\r\n213 5\r\n\
+503 SPAS or PASV first.\r\n";
     assert_eq!(rt;
         said.strip_prefix(LISTENING).unwrap_or(b""),
         want.as_slice()
@@ -713,12 +702,12 @@ fn a_part_is_stored_and_then_the_rest(rt: HostRuntime) -> Result<(), Fail> {
     let alloc = rt.alloc();
     let files = files_of(alloc, Vec::new(alloc), Vec::new(alloc));
     let lanes = vec![in alloc;
-        lane_of(alloc, &[(0, b"world")], true)?,
-        lane_of(alloc, &[(0, b"hello")], true)?,
+        whole_lane(alloc, &[(0, b"world")])?,
+        whole_lane(alloc, &[(0, b"hello")])?,
     ]?;
     let mut link = link_over(alloc, lanes)?;
     let (said, _) = stored(&rt, alloc, &files, &mut link, b"PASV\r\nESTO A 5 a.dat\r\n")?;
-    let want = b"150 Opening data connections.\r\n226 Part stored.\r\n";
+    let want = b"150 Opening data connections.\r\n111 Range Marker 5-10\r\n226 Part stored.\r\n";
     assert_eq!(rt;
         said.strip_prefix(LISTENING).unwrap_or(b""),
         want.as_slice()
@@ -726,7 +715,8 @@ fn a_part_is_stored_and_then_the_rest(rt: HostRuntime) -> Result<(), Fail> {
     let script = b"PASV\r\nREST 5-10\r\nSTOR a.dat\r\nSIZE a.dat\r\n";
     let (said, _) = stored(&rt, alloc, &files, &mut link, script)?;
     let want =
-        b"350 Restart list noted.\r\n150 Opening data connections.\r\n226 Transfer complete.\r\n213 10\r\n";
+        b"350 Restart list noted.\r\n150 Opening data connections.\r\n111 Range Marker 0-10\r\n\
+226 Transfer complete.\r\n213 10\r\n";
     assert_eq!(rt;
         said.strip_prefix(LISTENING).unwrap_or(b""),
         want.as_slice()
@@ -740,15 +730,14 @@ fn a_lost_channel_is_told(rt: HostRuntime) -> Result<(), Fail> {
     let alloc = rt.alloc();
     let files = files_of(alloc, Vec::new(alloc), Vec::new(alloc));
     let lanes = vec![in alloc;
-        lane_of(alloc, &[(0, b"hello")], false)?,
-        lane_of(alloc, &[(5, b"world")], true)?,
+        lane_of(alloc, &[(0, b"hello")], None, Vec::new(alloc))?,
+        whole_lane(alloc, &[(5, b"world")])?,
     ]?;
     let mut link = link_over(alloc, lanes)?;
     let script = b"PASV\r\nSTOR a.dat\r\nSIZE a.dat\r\n";
     let (said, _) = stored(&rt, alloc, &files, &mut link, script)?;
-    let want =
-        b"150 Opening data connections.\r\n426 Channel lost: lane 0, channel 0, 22 bytes taken.\r\n\
-550 Not complete.\r\n";
+    let want = b"150 Opening data connections.\r\n111 Range Marker 0-5\r\n\
+426 Channel lost: lane 0, channel 0, 22 bytes taken.\r\n550 Not complete.\r\n";
     assert_eq!(rt;
         said.strip_prefix(LISTENING).unwrap_or(b""),
         want.as_slice()
@@ -757,87 +746,10 @@ fn a_lost_channel_is_told(rt: HostRuntime) -> Result<(), Fail> {
     let (said, _) = stored(&rt, alloc, &files, &mut link, script)?;
     let want =
         b"350 Restart list noted.\r\n554 REST names 5-9, which is not stored.\r\n350 Restart list noted.\r\n\
-150 Opening data connections.\r\n226 Transfer complete.\r\n213 10\r\n";
+150 Opening data connections.\r\n111 Range Marker 0-10\r\n226 Transfer complete.\r\n213 10\r\n";
     assert_eq!(rt;
         said.strip_prefix(LISTENING).unwrap_or(b""),
         want.as_slice()
     );
-    Ok(())
-}
-
-#[test]
-fn failures_have_texts(rt: HostRuntime) -> Result<(), Fail> {
-    let alloc = rt.alloc();
-    let bad = BadBlock {
-        place: 17,
-        flags: 3,
-        count: 5,
-        offset: 9,
-    };
-    let missing = Some(Range { start: 5, end: 9 });
-    let rows: [(Cause, &[u8]); 15] = [
-        (
-            Cause::BadBlock {
-                lane: 0,
-                channel: 1,
-                bad,
-            },
-            b"426 Bad block at 17: flags 3, count 5, offset 9.\r\n",
-        ),
-        (
-            Cause::TwoTotals { kept: 1, new: 2 },
-            b"426 Two totals: 1 and 2.\r\n",
-        ),
-        (Cause::BadTotal { total: 0 }, b"426 Bad total: 0.\r\n"),
-        (
-            Cause::TooManyEods { total: 1 },
-            b"426 Too many EODs: total 1.\r\n",
-        ),
-        (
-            Cause::Idle { lane: 3, turns: 7 },
-            b"426 Idle: lane 3, turn 7.\r\n",
-        ),
-        (
-            Cause::Hole {
-                total: Some(2),
-                eods: 2,
-                missing,
-            },
-            b"426 Hole: total 2, EODs 2, first missing 5-9.\r\n",
-        ),
-        (
-            Cause::Hole {
-                total: None,
-                eods: 0,
-                missing: None,
-            },
-            b"426 Hole: total none, EODs 0, first missing none.\r\n",
-        ),
-        (
-            Cause::StreamTooLong { lane: 2 },
-            b"426 Stream too long: lane 2.\r\n",
-        ),
-        (
-            Cause::TooManyChannels {
-                lane: 1,
-                opened: 70,
-                live: 64,
-            },
-            b"426 Too many channels: lane 1, opened 70, live 64.\r\n",
-        ),
-        (Cause::Aborted, b"426 Aborted.\r\n"),
-        (Cause::ControlGone, b"426 Control lost.\r\n"),
-        (Cause::LinkFailed, b"425 Data connection failed.\r\n"),
-        (Cause::DriveFailed, b"451 Drive failed.\r\n"),
-        (
-            Cause::RangesFull { kept: 16_384 },
-            b"452 Too many ranges: 16384.\r\n",
-        ),
-        (Cause::Memory, b"455 Out of memory.\r\n"),
-    ];
-    for (cause, want) in rows {
-        let text = ReplyKind::Failed(cause).text(alloc)?;
-        assert_eq!(rt; text.as_slice(), want);
-    }
     Ok(())
 }

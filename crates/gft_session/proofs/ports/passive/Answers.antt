@@ -1,5 +1,5 @@
 use Rattle.std.proofs.Common.{refl, inr, rules}
-use Rattle.gft_session.specs.declared.reply_kind.ReplyKind.TheVariants.{Passive}
+use Rattle.gft_reply_kind.specs.declared.ReplyKind.TheVariants.{Passive}
 use Rattle.gft_session.proofs.PortLemmas.{one_place, single}
 use Rattle.gft_session.proofs.ports.passive.Goals as goal
 

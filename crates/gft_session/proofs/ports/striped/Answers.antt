@@ -1,5 +1,5 @@
 use Rattle.std.proofs.Common.{refl, inr}
-use Rattle.gft_session.specs.declared.reply_kind.ReplyKind.TheVariants.{Striped}
+use Rattle.gft_reply_kind.specs.declared.ReplyKind.TheVariants.{Striped}
 use Rattle.gft_session.proofs.ports.striped.Goals as goal
 
 pub returns-in-Ok-clause-answers : goal.returns-in-Ok-clause-answers
