@@ -104,6 +104,7 @@ fn run_transfer<R: Threads + Wait + Sync>(
     let Received {
         outcome,
         book,
+        put_failed: _,
         lanes: _,
     } = receive(
         rt,
